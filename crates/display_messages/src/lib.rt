@@ -16,7 +16,7 @@ pub use encoding::{spell_request, spell_setup};
 pub use hearing::read_part;
 pub use laws::{a_sent_message_is_read, requests_state_their_length};
 pub use part::{DisplayError, ErrorKind, Event, Part, WindowNotice};
-pub use replies::{read_reply, reply_kind};
+pub use replies::{read_longs, read_reply, reply_kind};
 pub use reply::{Attributes, Property, Reply, ReplyKind, SetupAnswer, WindowList};
 pub use request::{
     ClientMessage, PROPERTY_CHANGE, Request, STRUCTURE_NOTIFY, SUBSTRUCTURE_NOTIFY,

@@ -63,8 +63,8 @@ fn read_attributes(bytes: &[u8]) -> Reply
     })
 }
 
-/// So many numbers of four bytes.
-fn read_longs(alloc: Global, count: usize, bytes: &[u8]) -> Result<WindowList, NoMemory>
+/// So many numbers of four bytes, one after the other.
+pub fn read_longs(alloc: Global, count: usize, bytes: &[u8]) -> Result<WindowList, NoMemory>
     requires { 4 * count ≤ length bytes.now }
     ensures { IfOk result (λ numbers. numbers ≡ longs_in count bytes.now) }
 {

@@ -2,3 +2,5 @@ pub mod Names
 pub mod Atoms
 pub mod Questions
 pub mod Asked
+pub mod Facts
+pub mod Kinds

@@ -1,7 +1,11 @@
 -- The names of the properties and words that are known (ICCCM, section 4.1; EWMH), and the order in which their atoms are asked for.
 use Rattle.std.specs.Prelude.{ℕ, ◌+◌, List, [], ◌∷◌, codes}
+use Rattle.window_follower.specs.declared.names.TextProperty.{TextProperty}
+use Rattle.window_follower.specs.declared.names.TextProperty.TheVariants.{OldTitle, Title, Machine, ClientId}
+use Rattle.window_follower.specs.declared.names.NumberProperty.{NumberProperty}
+use Rattle.window_follower.specs.declared.names.NumberProperty.TheVariants.{State, Protocols, Leader, TransientFor, Types, States, UserTime, UserTimeWindow, Process}
 use Rattle.window_follower.specs.declared.names.WindowProperty.{WindowProperty}
-use Rattle.window_follower.specs.declared.names.WindowProperty.TheVariants.{State, Protocols, Leader, TransientFor, OldTitle, Title, Machine, ClientId, Types, States, UserTime, UserTimeWindow, Process}
+use Rattle.window_follower.specs.declared.names.WindowProperty.TheVariants.{Text, Numbers}
 use Rattle.window_follower.specs.declared.names.RootProperty.{RootProperty}
 use Rattle.window_follower.specs.declared.names.RootProperty.TheVariants.{Check, Windows}
 use Rattle.window_follower.specs.declared.names.WindowType.{WindowType}
@@ -11,20 +15,26 @@ use Rattle.window_follower.specs.declared.names.Word.TheVariants.{DeleteWindow, 
 use Rattle.window_follower.specs.declared.names.Name.{Name}
 use Rattle.window_follower.specs.declared.names.Name.TheVariants.{Property, Root, OfType, Word as IsWord}
 
+abbrev pub text_name : TextProperty → List ℕ
+text_name OldTitle = codes "WM_NAME"
+text_name Title = codes "_NET_WM_NAME"
+text_name Machine = codes "WM_CLIENT_MACHINE"
+text_name ClientId = codes "SM_CLIENT_ID"
+
+abbrev pub number_name : NumberProperty → List ℕ
+number_name State = codes "WM_STATE"
+number_name Protocols = codes "WM_PROTOCOLS"
+number_name Leader = codes "WM_CLIENT_LEADER"
+number_name TransientFor = codes "WM_TRANSIENT_FOR"
+number_name Types = codes "_NET_WM_WINDOW_TYPE"
+number_name States = codes "_NET_WM_STATE"
+number_name UserTime = codes "_NET_WM_USER_TIME"
+number_name UserTimeWindow = codes "_NET_WM_USER_TIME_WINDOW"
+number_name Process = codes "_NET_WM_PID"
+
 abbrev pub property_text : WindowProperty → List ℕ
-property_text State = codes "WM_STATE"
-property_text Protocols = codes "WM_PROTOCOLS"
-property_text Leader = codes "WM_CLIENT_LEADER"
-property_text TransientFor = codes "WM_TRANSIENT_FOR"
-property_text OldTitle = codes "WM_NAME"
-property_text Title = codes "_NET_WM_NAME"
-property_text Machine = codes "WM_CLIENT_MACHINE"
-property_text ClientId = codes "SM_CLIENT_ID"
-property_text Types = codes "_NET_WM_WINDOW_TYPE"
-property_text States = codes "_NET_WM_STATE"
-property_text UserTime = codes "_NET_WM_USER_TIME"
-property_text UserTimeWindow = codes "_NET_WM_USER_TIME_WINDOW"
-property_text Process = codes "_NET_WM_PID"
+property_text (Text property) = text_name property
+property_text (Numbers property) = number_name property
 
 abbrev pub root_text : RootProperty → List ℕ
 root_text Check = codes "_NET_SUPPORTING_WM_CHECK"
@@ -60,20 +70,26 @@ name_text (OfType kind) = type_text kind
 name_text (IsWord word) = word_text word
 
 -- The atoms come in the order in which they are asked for: this is the place of each name's atom.
+abbrev pub text_place : TextProperty → ℕ
+text_place OldTitle = 4
+text_place Title = 5
+text_place Machine = 6
+text_place ClientId = 7
+
+abbrev pub number_place : NumberProperty → ℕ
+number_place State = 0
+number_place Protocols = 1
+number_place Leader = 2
+number_place TransientFor = 3
+number_place Types = 8
+number_place States = 9
+number_place UserTime = 10
+number_place UserTimeWindow = 11
+number_place Process = 12
+
 abbrev pub property_place : WindowProperty → ℕ
-property_place State = 0
-property_place Protocols = 1
-property_place Leader = 2
-property_place TransientFor = 3
-property_place OldTitle = 4
-property_place Title = 5
-property_place Machine = 6
-property_place ClientId = 7
-property_place Types = 8
-property_place States = 9
-property_place UserTime = 10
-property_place UserTimeWindow = 11
-property_place Process = 12
+property_place (Text property) = text_place property
+property_place (Numbers property) = number_place property
 
 abbrev pub root_place : RootProperty → ℕ
 root_place Check = 13
@@ -108,7 +124,7 @@ place (OfType kind) = type_place kind
 place (IsWord word) = word_place word
 
 abbrev pub window_properties : List WindowProperty
-window_properties = State ∷ Protocols ∷ Leader ∷ TransientFor ∷ OldTitle ∷ Title ∷ Machine ∷ ClientId ∷ Types ∷ States ∷ UserTime ∷ UserTimeWindow ∷ Process ∷ []
+window_properties = Numbers State ∷ Numbers Protocols ∷ Numbers Leader ∷ Numbers TransientFor ∷ Text OldTitle ∷ Text Title ∷ Text Machine ∷ Text ClientId ∷ Numbers Types ∷ Numbers States ∷ Numbers UserTime ∷ Numbers UserTimeWindow ∷ Numbers Process ∷ []
 
 abbrev pub root_properties : List RootProperty
 root_properties = Check ∷ Windows ∷ []

@@ -1,27 +1,29 @@
 ghost use Rattle.std.specs.Prelude.{◌≡◌, ◌∷◌, [], ◌++◌, ◌==◌, find, slice_index, OnOk, OnErr};
-ghost use Rattle.window_follower.specs.Names.{place as place_of, property_place, root_place, type_place, word_place, window_properties, root_properties, window_types};
+ghost use Rattle.window_follower.specs.Names.{number_place, place as place_of, property_place, text_place, type_place, word_place, window_properties, root_properties, window_types};
 ghost use Rattle.window_follower.specs.declared.names.Name.TheVariants.{Property as OfWindow, Root as OfRoot, OfType};
 ghost use Rattle.window_follower.specs.Atoms.{atom_of, property_named, root_property_named, type_named};
 
-use crate::{Name, RootProperty, WindowProperty, WindowType, Word};
+use crate::{
+    Name, NumberProperty, RootProperty, TextProperty, WindowProperty, WindowType, Word,
+};
 use owned_lists::{ListOf, NoMemory};
 use std::alloc::Global;
 use std::marker::Model;
 
 const WINDOW_PROPERTIES: [WindowProperty; 13] = [
-    WindowProperty::State,
-    WindowProperty::Protocols,
-    WindowProperty::Leader,
-    WindowProperty::TransientFor,
-    WindowProperty::OldTitle,
-    WindowProperty::Title,
-    WindowProperty::Machine,
-    WindowProperty::ClientId,
-    WindowProperty::Types,
-    WindowProperty::States,
-    WindowProperty::UserTime,
-    WindowProperty::UserTimeWindow,
-    WindowProperty::Process,
+    WindowProperty::Numbers(NumberProperty::State),
+    WindowProperty::Numbers(NumberProperty::Protocols),
+    WindowProperty::Numbers(NumberProperty::Leader),
+    WindowProperty::Numbers(NumberProperty::TransientFor),
+    WindowProperty::Text(TextProperty::OldTitle),
+    WindowProperty::Text(TextProperty::Title),
+    WindowProperty::Text(TextProperty::Machine),
+    WindowProperty::Text(TextProperty::ClientId),
+    WindowProperty::Numbers(NumberProperty::Types),
+    WindowProperty::Numbers(NumberProperty::States),
+    WindowProperty::Numbers(NumberProperty::UserTime),
+    WindowProperty::Numbers(NumberProperty::UserTimeWindow),
+    WindowProperty::Numbers(NumberProperty::Process),
 ];
 
 const ROOT_PROPERTIES: [RootProperty; 2] = [RootProperty::Check, RootProperty::Windows];
@@ -43,23 +45,39 @@ const WINDOW_TYPES: [WindowType; 14] = [
     WindowType::DragAndDrop,
 ];
 
+fn text_at(property: TextProperty) -> usize
+    ensures { result ≡ text_place property }
+{
+    match property {
+        TextProperty::OldTitle => 4,
+        TextProperty::Title => 5,
+        TextProperty::Machine => 6,
+        TextProperty::ClientId => 7,
+    }
+}
+
+fn number_at(property: NumberProperty) -> usize
+    ensures { result ≡ number_place property }
+{
+    match property {
+        NumberProperty::State => 0,
+        NumberProperty::Protocols => 1,
+        NumberProperty::Leader => 2,
+        NumberProperty::TransientFor => 3,
+        NumberProperty::Types => 8,
+        NumberProperty::States => 9,
+        NumberProperty::UserTime => 10,
+        NumberProperty::UserTimeWindow => 11,
+        NumberProperty::Process => 12,
+    }
+}
+
 fn property_at(property: WindowProperty) -> usize
     ensures { result ≡ property_place property }
 {
     match property {
-        WindowProperty::State => 0,
-        WindowProperty::Protocols => 1,
-        WindowProperty::Leader => 2,
-        WindowProperty::TransientFor => 3,
-        WindowProperty::OldTitle => 4,
-        WindowProperty::Title => 5,
-        WindowProperty::Machine => 6,
-        WindowProperty::ClientId => 7,
-        WindowProperty::Types => 8,
-        WindowProperty::States => 9,
-        WindowProperty::UserTime => 10,
-        WindowProperty::UserTimeWindow => 11,
-        WindowProperty::Process => 12,
+        WindowProperty::Text(property) => text_at(property),
+        WindowProperty::Numbers(property) => number_at(property),
     }
 }
 

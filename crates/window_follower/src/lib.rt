@@ -3,10 +3,18 @@
 
 mod asked;
 mod atoms;
+mod facts;
+mod kinds;
 mod names;
 mod question;
+mod reading;
 
 pub use asked::AskedQueue;
 pub use atoms::Atoms;
-pub use names::{Name, RootProperty, WindowProperty, WindowType, Word, spelling};
+pub use facts::{Fact, WindowFacts, WindowState};
+pub use kinds::{Kind, kind_of};
+pub use names::{
+    Name, NumberProperty, RootProperty, TextProperty, WindowProperty, WindowType, Word, spelling,
+};
 pub use question::{Question, QuestionList};
+pub use reading::{read_fact, read_numbers};

@@ -1,18 +1,9 @@
-ghost use Rattle.std.specs.Prelude.{◌≡◌, codes};
-ghost use Rattle.window_follower.specs.Names.{name_text, property_text, root_text, type_text, word_text};
+ghost use Rattle.std.specs.Prelude.{◌≡◌};
+ghost use Rattle.window_follower.specs.Names.{name_text, number_name, property_text, root_text, text_name, type_text, word_text};
 
-/// A property of a window from which something is known of it (ICCCM, section 4.1; EWMH, Application
-/// Window Properties).
+/// A property of a window whose value is a text (ICCCM, section 4.1; EWMH, Application Window Properties).
 #[derive(Clone, Copy, Debug, PartialEq, Eq)]
-pub enum WindowProperty {
-    /// WM_STATE
-    State,
-    /// WM_PROTOCOLS
-    Protocols,
-    /// WM_CLIENT_LEADER
-    Leader,
-    /// WM_TRANSIENT_FOR
-    TransientFor,
+pub enum TextProperty {
     /// WM_NAME
     OldTitle,
     /// _NET_WM_NAME
@@ -21,6 +12,19 @@ pub enum WindowProperty {
     Machine,
     /// SM_CLIENT_ID
     ClientId,
+}
+
+/// A property of a window whose value is numbers: atoms, windows, a time or a process.
+#[derive(Clone, Copy, Debug, PartialEq, Eq)]
+pub enum NumberProperty {
+    /// WM_STATE
+    State,
+    /// WM_PROTOCOLS
+    Protocols,
+    /// WM_CLIENT_LEADER
+    Leader,
+    /// WM_TRANSIENT_FOR
+    TransientFor,
     /// _NET_WM_WINDOW_TYPE
     Types,
     /// _NET_WM_STATE
@@ -31,6 +35,13 @@ pub enum WindowProperty {
     UserTimeWindow,
     /// _NET_WM_PID
     Process,
+}
+
+/// A property of a window from which something is known of it.
+#[derive(Clone, Copy, Debug, PartialEq, Eq)]
+pub enum WindowProperty {
+    Text(TextProperty),
+    Numbers(NumberProperty),
 }
 
 /// A property of the root window (EWMH, Root Window Properties).
@@ -83,23 +94,39 @@ pub enum Name {
     Word(Word),
 }
 
+fn text_spelling(property: TextProperty) -> &'static [u8]
+    ensures { result.now ≡ text_name property }
+{
+    match property {
+        TextProperty::OldTitle => b"WM_NAME",
+        TextProperty::Title => b"_NET_WM_NAME",
+        TextProperty::Machine => b"WM_CLIENT_MACHINE",
+        TextProperty::ClientId => b"SM_CLIENT_ID",
+    }
+}
+
+fn number_spelling(property: NumberProperty) -> &'static [u8]
+    ensures { result.now ≡ number_name property }
+{
+    match property {
+        NumberProperty::State => b"WM_STATE",
+        NumberProperty::Protocols => b"WM_PROTOCOLS",
+        NumberProperty::Leader => b"WM_CLIENT_LEADER",
+        NumberProperty::TransientFor => b"WM_TRANSIENT_FOR",
+        NumberProperty::Types => b"_NET_WM_WINDOW_TYPE",
+        NumberProperty::States => b"_NET_WM_STATE",
+        NumberProperty::UserTime => b"_NET_WM_USER_TIME",
+        NumberProperty::UserTimeWindow => b"_NET_WM_USER_TIME_WINDOW",
+        NumberProperty::Process => b"_NET_WM_PID",
+    }
+}
+
 fn property_spelling(property: WindowProperty) -> &'static [u8]
     ensures { result.now ≡ property_text property }
 {
     match property {
-        WindowProperty::State => b"WM_STATE",
-        WindowProperty::Protocols => b"WM_PROTOCOLS",
-        WindowProperty::Leader => b"WM_CLIENT_LEADER",
-        WindowProperty::TransientFor => b"WM_TRANSIENT_FOR",
-        WindowProperty::OldTitle => b"WM_NAME",
-        WindowProperty::Title => b"_NET_WM_NAME",
-        WindowProperty::Machine => b"WM_CLIENT_MACHINE",
-        WindowProperty::ClientId => b"SM_CLIENT_ID",
-        WindowProperty::Types => b"_NET_WM_WINDOW_TYPE",
-        WindowProperty::States => b"_NET_WM_STATE",
-        WindowProperty::UserTime => b"_NET_WM_USER_TIME",
-        WindowProperty::UserTimeWindow => b"_NET_WM_USER_TIME_WINDOW",
-        WindowProperty::Process => b"_NET_WM_PID",
+        WindowProperty::Text(property) => text_spelling(property),
+        WindowProperty::Numbers(property) => number_spelling(property),
     }
 }
 
