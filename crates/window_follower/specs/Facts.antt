@@ -44,9 +44,14 @@ nothing_known = record {
   mapped = true;
 }
 
+-- an iconified window isn't mapped
+abbrev pub mapped_at : WindowState → Bool → Bool
+mapped_at Iconic mapped = false
+mapped_at state mapped = mapped
+
 -- what is heard takes the place of what was known
 abbrev pub learned : Fact → WindowFacts → WindowFacts
-learned (State state) facts = record facts { state = state }
+learned (State state) facts = record facts { state = state; mapped = mapped_at state facts.mapped }
 learned (Protocols deletes pings) facts = record facts { deletes = deletes; pings = pings }
 learned (Leader leader) facts = record facts { leader = leader }
 learned (TransientFor window) facts = record facts { transient_for = window }
@@ -61,6 +66,11 @@ learned (UserTimeWindow window) facts = record facts { user_time_window = window
 learned (Stated process) facts = record facts { stated = process }
 learned (Owner process) facts = record facts { owner = process }
 learned (Mapped mapped) facts = record facts { mapped = mapped }
+
+-- unmapped, and without a WM_STATE or with one that says so
+abbrev pub is_withdrawn : Bool → WindowState → Bool
+is_withdrawn false Withdrawn = true
+is_withdrawn mapped state = false
 
 -- The display's word goes before the program's own.
 abbrev pub process_of : WindowFacts → Option ℕ

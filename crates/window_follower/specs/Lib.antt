@@ -4,3 +4,4 @@ pub mod Questions
 pub mod Asked
 pub mod Facts
 pub mod Kinds
+pub mod Windows

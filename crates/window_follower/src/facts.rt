@@ -1,5 +1,5 @@
 ghost use Rattle.std.specs.Prelude.{◌≡◌, MatchOption, None, Some};
-ghost use Rattle.window_follower.specs.Facts.{learned, nothing_known, process_of, title_of, is_local as is_of_this_machine};
+ghost use Rattle.window_follower.specs.Facts.{is_withdrawn as withdrawn_at, learned, mapped_at, nothing_known, process_of, title_of, is_local as is_of_this_machine};
 
 use crate::WindowType;
 use owned_lists::Octets;
@@ -15,6 +15,18 @@ pub enum WindowState {
     Iconic,
     /// A number that the convention doesn't know.
     Other,
+}
+
+impl WindowState {
+    /// Whether a window in this state is mapped, which was so before: an iconified one isn't.
+    fn mapped(self, mapped: bool) -> bool
+        ensures { result ≡ mapped_at self mapped }
+    {
+        match self {
+            WindowState::Iconic => false,
+            _ => mapped,
+        }
+    }
 }
 
 /// One thing that was heard of a window.
@@ -103,7 +115,10 @@ impl WindowFacts {
         ensures { self.new ≡ learned fact self.old }
     {
         match fact {
-            Fact::State(state) => self.state = state,
+            Fact::State(state) => {
+                self.mapped = state.mapped(self.mapped);
+                self.state = state;
+            }
             Fact::Protocols { deletes, pings } => {
                 self.deletes = deletes;
                 self.pings = pings;
@@ -121,6 +136,16 @@ impl WindowFacts {
             Fact::Stated(process) => self.stated = process,
             Fact::Owner(process) => self.owner = process,
             Fact::Mapped(mapped) => self.mapped = mapped,
+        }
+    }
+
+    /// Whether it is unmapped, and has no WM_STATE or a withdrawn one.
+    pub fn is_withdrawn(&self) -> bool
+        ensures { result ≡ withdrawn_at self.now.mapped self.now.state }
+    {
+        match (self.mapped, self.state) {
+            (false, WindowState::Withdrawn) => true,
+            _ => false,
         }
     }
 

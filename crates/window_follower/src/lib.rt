@@ -8,6 +8,8 @@ mod kinds;
 mod names;
 mod question;
 mod reading;
+mod requests;
+mod windows;
 
 pub use asked::AskedQueue;
 pub use atoms::Atoms;
@@ -18,3 +20,5 @@ pub use names::{
 };
 pub use question::{Question, QuestionList};
 pub use reading::{read_fact, read_numbers};
+pub use requests::{RequestList, request_of, requests_of};
+pub use windows::{Followed, Windows};

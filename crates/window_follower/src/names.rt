@@ -1,4 +1,4 @@
-ghost use Rattle.std.specs.Prelude.{◌≡◌};
+ghost use Rattle.std.specs.Prelude.{◌≡◌, ◌≤◌, length};
 ghost use Rattle.window_follower.specs.Names.{name_text, number_name, property_text, root_text, text_name, type_text, word_text};
 
 /// A property of a window whose value is a text (ICCCM, section 4.1; EWMH, Application Window Properties).
@@ -95,7 +95,8 @@ pub enum Name {
 }
 
 fn text_spelling(property: TextProperty) -> &'static [u8]
-    ensures { result.now ≡ text_name property }
+    ensures is { result.now ≡ text_name property }
+    ensures short { length result.now ≤ 40 }
 {
     match property {
         TextProperty::OldTitle => b"WM_NAME",
@@ -106,7 +107,8 @@ fn text_spelling(property: TextProperty) -> &'static [u8]
 }
 
 fn number_spelling(property: NumberProperty) -> &'static [u8]
-    ensures { result.now ≡ number_name property }
+    ensures is { result.now ≡ number_name property }
+    ensures short { length result.now ≤ 40 }
 {
     match property {
         NumberProperty::State => b"WM_STATE",
@@ -122,7 +124,8 @@ fn number_spelling(property: NumberProperty) -> &'static [u8]
 }
 
 fn property_spelling(property: WindowProperty) -> &'static [u8]
-    ensures { result.now ≡ property_text property }
+    ensures is { result.now ≡ property_text property }
+    ensures short { length result.now ≤ 40 }
 {
     match property {
         WindowProperty::Text(property) => text_spelling(property),
@@ -131,7 +134,8 @@ fn property_spelling(property: WindowProperty) -> &'static [u8]
 }
 
 fn root_spelling(property: RootProperty) -> &'static [u8]
-    ensures { result.now ≡ root_text property }
+    ensures is { result.now ≡ root_text property }
+    ensures short { length result.now ≤ 40 }
 {
     match property {
         RootProperty::Check => b"_NET_SUPPORTING_WM_CHECK",
@@ -140,7 +144,8 @@ fn root_spelling(property: RootProperty) -> &'static [u8]
 }
 
 fn type_spelling(kind: WindowType) -> &'static [u8]
-    ensures { result.now ≡ type_text kind }
+    ensures is { result.now ≡ type_text kind }
+    ensures short { length result.now ≤ 40 }
 {
     match kind {
         WindowType::Normal => b"_NET_WM_WINDOW_TYPE_NORMAL",
@@ -161,7 +166,8 @@ fn type_spelling(kind: WindowType) -> &'static [u8]
 }
 
 fn word_spelling(word: Word) -> &'static [u8]
-    ensures { result.now ≡ word_text word }
+    ensures is { result.now ≡ word_text word }
+    ensures short { length result.now ≤ 40 }
 {
     match word {
         Word::DeleteWindow => b"WM_DELETE_WINDOW",
@@ -173,7 +179,8 @@ fn word_spelling(word: Word) -> &'static [u8]
 
 /// How a name is spelled.
 pub fn spelling(name: Name) -> &'static [u8]
-    ensures { result.now ≡ name_text name }
+    ensures is { result.now ≡ name_text name }
+    ensures short { length result.now ≤ 40 }
 {
     match name {
         Name::Property(property) => property_spelling(property),

@@ -1,7 +1,8 @@
 ghost use Rattle.std.specs.Prelude.{◌≡◌};
-ghost use Rattle.window_follower.specs.Questions.{has_answer as has_reply};
+ghost use Rattle.window_follower.specs.Questions.{answer_kind as kind_of_answer, has_answer as has_reply};
 
 use crate::{Name, RootProperty, WindowProperty};
+use display_messages::ReplyKind;
 use owned_lists::ListOf;
 
 /// What a display is asked, and what for.
@@ -16,7 +17,10 @@ pub enum Question {
     /// These events of a window are to come.
     Watch { window: u32, events: u32 },
     /// A property of a window that is followed.
-    Property { window: u32, property: WindowProperty },
+    Property {
+        window: u32,
+        property: WindowProperty,
+    },
     /// A property of the root, or of the window that its check names.
     Root { window: u32, property: RootProperty },
     /// Who has asked for the events of the root.
@@ -35,7 +39,7 @@ pub enum Question {
     Show { root: u32, window: u32 },
     /// A window's program is asked whether it listens.
     Ping { window: u32, stamp: u32 },
-    /// A mark of the caller's, or one of its own, whose number is 0.
+    /// A mark of the caller's; the one that is asked for by itself has the number 0.
     Mark { number: u32 },
 }
 
@@ -53,6 +57,29 @@ impl Question {
             Question::Show { .. } => false,
             Question::Ping { .. } => false,
             _ => true,
+        }
+    }
+
+    /// Which reply it has.
+    pub fn answer_kind(self) -> Option<ReplyKind>
+        ensures { result ≡ kind_of_answer self }
+    {
+        match self {
+            Question::Atom(_) => Some(ReplyKind::Atom),
+            Question::Extension => Some(ReplyKind::Extension),
+            Question::Version { .. } => Some(ReplyKind::ResourceVersion),
+            Question::Watch { .. } => None,
+            Question::Property { .. } => Some(ReplyKind::Property),
+            Question::Root { .. } => Some(ReplyKind::Property),
+            Question::Events { .. } => Some(ReplyKind::Attributes),
+            Question::Process { .. } => Some(ReplyKind::Process),
+            Question::Children { .. } => Some(ReplyKind::Tree),
+            Question::Managed { .. } => Some(ReplyKind::Property),
+            Question::Shown { .. } => Some(ReplyKind::Attributes),
+            Question::Close { .. } => None,
+            Question::Show { .. } => None,
+            Question::Ping { .. } => None,
+            Question::Mark { .. } => Some(ReplyKind::Mark),
         }
     }
 }
