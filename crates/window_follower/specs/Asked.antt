@@ -13,6 +13,9 @@ pub record Asked : Type 0 where
 abbrev pub ask : Question → Asked → Asked
 ask question asked = record asked { waiting = asked.waiting ++ question ∷ [] }
 
+abbrev pub ask_all : List Question → Asked → Asked
+ask_all questions asked = record asked { waiting = asked.waiting ++ questions }
+
 -- how many questions may be sent before a mark has to be
 abbrev pub room : Asked → ℕ
 room asked = 65534 - length asked.unanswered
@@ -35,20 +38,22 @@ sends asked = take (room asked) asked.waiting ++ mark_if (wants_mark asked)
 abbrev pub after_sending : Asked → Asked
 after_sending asked = record asked { unanswered = (asked.unanswered ++ take (room asked) asked.waiting) ++ mark_if (wants_mark asked); waiting = drop (room asked) asked.waiting }
 
--- The question to which something came, what is open behind it, and the number of the first of that.
+-- a question to which something came, and what is open and waits behind it
 pub record Settled : Type 0 where
   pub question : Question
-  pub first : ℕ
-  pub unanswered : List Question
+  pub next : Asked
 
 -- numbers have 16 bits
 abbrev pub next_number : ℕ → ℕ
 next_number number = (number + 1) % 65536
 
 -- The question of a number, where all that are open before it have no answer other than an Error.
-abbrev pub settled : ℕ → ℕ → List Question → Option Settled
-settled sequence first [] = None
-settled sequence first (question ∷ questions) =
-    if first == sequence then Some (record { question = question; first = next_number first; unanswered = questions })
+abbrev pub settled_in : ℕ → List Question → ℕ → List Question → Option Settled
+settled_in sequence waiting first [] = None
+settled_in sequence waiting first (question ∷ questions) =
+    if first == sequence then Some (record { question = question; next = record { first = next_number first; unanswered = questions; waiting = waiting } })
     else if has_answer question then None
-    else settled sequence (next_number first) questions
+    else settled_in sequence waiting (next_number first) questions
+
+abbrev pub settled : ℕ → Asked → Option Settled
+settled sequence asked = settled_in sequence asked.waiting asked.first asked.unanswered

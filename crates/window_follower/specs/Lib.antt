@@ -5,3 +5,4 @@ pub mod Asked
 pub mod Facts
 pub mod Kinds
 pub mod Windows
+pub mod Following

@@ -1,8 +1,8 @@
-ghost use Rattle.std.specs.Prelude.{◌≡◌, ◌<◌, ◌∷◌, [], ◌++◌, ◌≤◌, length, take, drop, Some, None, IfOk, OnOk, MatchOption};
-ghost use Rattle.window_follower.specs.Asked.{ask as asks, room, moved, wants_mark, sends, after_sending, settled};
-ghost use Rattle.window_follower.specs.declared.question.Question.TheVariants.{Mark};
+ghost use Rattle.std.specs.Prelude.{◌≡◌, ◌<◌, ◌∷◌, [], ◌++◌, ◌≤◌, length, map, take, drop, Some, None, IfOk, OnOk, MatchOption};
+ghost use Rattle.window_follower.specs.Asked.{ask as asks, ask_all as asks_all, room, moved, wants_mark, sends, after_sending, settled};
+ghost use Rattle.window_follower.specs.declared.question.Question.TheVariants.{Mark, Property};
 
-use crate::{Question, QuestionList};
+use crate::{Question, QuestionList, WindowProperty};
 use owned_lists::NoMemory;
 use std::alloc::Global;
 use std::collections::VecDeque;
@@ -62,6 +62,33 @@ impl AskedQueue {
         ensures { OnOk result (self.new ≡ asks question self.old) }
     {
         self.waiting.push_back(question)?;
+        Ok(())
+    }
+
+    /// Some questions are to be asked behind all others.
+    pub fn ask_all(&mut self, questions: &[Question]) -> Result<(), NoMemory>
+        ensures { OnOk result (self.new ≡ asks_all questions.now self.old) }
+    {
+        for question in questions {
+            self.ask(*question)?;
+        }
+        Ok(())
+    }
+
+    /// Some properties of a window are to be asked for.
+    pub(crate) fn ask_properties(
+        &mut self,
+        window: u32,
+        properties: &[WindowProperty],
+    ) -> Result<(), NoMemory>
+        ensures { OnOk result (self.new ≡ asks_all (map (λ property. Property window property) properties.now) self.old) }
+    {
+        for property in properties {
+            self.ask(Question::Property {
+                window,
+                property: *property,
+            })?;
+        }
         Ok(())
     }
 
@@ -126,13 +153,11 @@ impl AskedQueue {
     /// The question of this number, to which something came; it is open no more, nor are those before it,
     /// which went well. None where there is no such question, or an answer to one before it is wanting.
     pub fn settle(&mut self, sequence: u16) -> Option<Question>
-        ensures settled { MatchOption result (settled sequence self.old.first self.old.unanswered ≡ None)
-            (λ question. settled sequence self.old.first self.old.unanswered ≡ Some (record {
+        ensures { MatchOption result (settled sequence self.old ≡ None) (λ question.
+            settled sequence self.old ≡ Some (record {
               question = question;
-              first = self.new.first;
-              unanswered = self.new.unanswered;
+              next = self.new;
             })) }
-        ensures waiting { self.new.waiting ≡ self.old.waiting }
     {
         while let Some(question) = self.unanswered.pop_front() {
             let number = self.first;

@@ -10,7 +10,8 @@ use owned_lists::{ListOf, NoMemory};
 use std::alloc::Global;
 use std::marker::Model;
 
-const WINDOW_PROPERTIES: [WindowProperty; 13] = [
+/// The properties of windows that are asked for.
+pub(crate) const WINDOW_PROPERTIES: [WindowProperty; 13] = [
     WindowProperty::Numbers(NumberProperty::State),
     WindowProperty::Numbers(NumberProperty::Protocols),
     WindowProperty::Numbers(NumberProperty::Leader),

@@ -4,7 +4,9 @@
 mod asked;
 mod atoms;
 mod facts;
+mod following;
 mod kinds;
+mod mode;
 mod names;
 mod question;
 mod reading;
@@ -15,6 +17,7 @@ pub use asked::AskedQueue;
 pub use atoms::Atoms;
 pub use facts::{Fact, WindowFacts, WindowState};
 pub use kinds::{Kind, kind_of};
+pub use mode::Mode;
 pub use names::{
     Name, NumberProperty, RootProperty, TextProperty, WindowProperty, WindowType, Word, spelling,
 };
