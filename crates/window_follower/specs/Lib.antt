@@ -6,3 +6,5 @@ pub mod Facts
 pub mod Kinds
 pub mod Windows
 pub mod Following
+pub mod Answers
+pub mod Taking

@@ -1,13 +1,16 @@
 //! The windows of an X display, as what the display says lets them be known.
 #![tactic(auto)]
 
+mod answering;
 mod asked;
 mod atoms;
 mod facts;
 mod following;
+mod hearing;
 mod kinds;
 mod mode;
 mod names;
+mod news;
 mod question;
 mod reading;
 mod requests;
@@ -21,6 +24,7 @@ pub use mode::Mode;
 pub use names::{
     Name, NumberProperty, RootProperty, TextProperty, WindowProperty, WindowType, Word, spelling,
 };
+pub use news::News;
 pub use question::{Question, QuestionList};
 pub use reading::{read_fact, read_numbers};
 pub use requests::{RequestList, request_of, requests_of};

@@ -59,7 +59,7 @@ fn first_number(numbers: &[u32]) -> Option<u32>
 }
 
 /// The first number; none where it is 0.
-fn first_named(numbers: &[u32]) -> Option<u32>
+pub(crate) fn first_named(numbers: &[u32]) -> Option<u32>
     ensures { result ≡ named_first numbers.now }
 {
     first_number(numbers).filter(|number| *number != 0)
