@@ -1,2 +1,4 @@
 pub mod Sending
 pub mod WindowLaws
+pub mod Listing
+pub mod Leaving

@@ -8,3 +8,6 @@ pub mod Windows
 pub mod Following
 pub mod Answers
 pub mod Taking
+pub mod Views
+pub mod Follower
+pub mod Laws

@@ -132,5 +132,6 @@ root_properties = Check ∷ Windows ∷ []
 abbrev pub window_types : List WindowType
 window_types = Normal ∷ Dialog ∷ Dock ∷ Desktop ∷ Splash ∷ Utility ∷ Toolbar ∷ Menu ∷ DropdownMenu ∷ PopupMenu ∷ Tooltip ∷ Notification ∷ Combo ∷ DragAndDrop ∷ []
 
-abbrev pub words : List Word
-words = DeleteWindow ∷ Ping ∷ Modal ∷ ActiveWindow ∷ []
+-- the names in the order in which their atoms are asked for
+abbrev pub every_name : List Name
+every_name = Property (Numbers State) ∷ Property (Numbers Protocols) ∷ Property (Numbers Leader) ∷ Property (Numbers TransientFor) ∷ Property (Text OldTitle) ∷ Property (Text Title) ∷ Property (Text Machine) ∷ Property (Text ClientId) ∷ Property (Numbers Types) ∷ Property (Numbers States) ∷ Property (Numbers UserTime) ∷ Property (Numbers UserTimeWindow) ∷ Property (Numbers Process) ∷ Root Check ∷ Root Windows ∷ OfType Normal ∷ OfType Dialog ∷ OfType Dock ∷ OfType Desktop ∷ OfType Splash ∷ OfType Utility ∷ OfType Toolbar ∷ OfType Menu ∷ OfType DropdownMenu ∷ OfType PopupMenu ∷ OfType Tooltip ∷ OfType Notification ∷ OfType Combo ∷ OfType DragAndDrop ∷ IsWord DeleteWindow ∷ IsWord Ping ∷ IsWord Modal ∷ IsWord ActiveWindow ∷ []

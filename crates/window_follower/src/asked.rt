@@ -1,8 +1,8 @@
 ghost use Rattle.std.specs.Prelude.{◌≡◌, ◌<◌, ◌∷◌, [], ◌++◌, ◌≤◌, length, map, take, drop, Some, None, IfOk, OnOk, MatchOption};
 ghost use Rattle.window_follower.specs.Asked.{ask as asks, ask_all as asks_all, room, moved, wants_mark, sends, after_sending, settled};
-ghost use Rattle.window_follower.specs.declared.question.Question.TheVariants.{Mark, Property};
+ghost use Rattle.window_follower.specs.declared.question.Question.TheVariants.{Atom, Mark, Property};
 
-use crate::{Question, QuestionList, WindowProperty};
+use crate::{Name, Question, QuestionList, WindowProperty};
 use owned_lists::NoMemory;
 use std::alloc::Global;
 use std::collections::VecDeque;
@@ -71,6 +71,16 @@ impl AskedQueue {
     {
         for question in questions {
             self.ask(*question)?;
+        }
+        Ok(())
+    }
+
+    /// The atoms of some names are to be asked for.
+    pub(crate) fn ask_names(&mut self, names: &[Name]) -> Result<(), NoMemory>
+        ensures { OnOk result (self.new ≡ asks_all (map (λ name. Atom name) names.now) self.old) }
+    {
+        for name in names {
+            self.ask(Question::Atom(*name))?;
         }
         Ok(())
     }

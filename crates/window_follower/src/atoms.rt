@@ -46,6 +46,43 @@ const WINDOW_TYPES: [WindowType; 14] = [
     WindowType::DragAndDrop,
 ];
 
+/// The names in the order in which their atoms are asked for.
+pub(crate) const EVERY_NAME: [Name; 33] = [
+    Name::Property(WindowProperty::Numbers(NumberProperty::State)),
+    Name::Property(WindowProperty::Numbers(NumberProperty::Protocols)),
+    Name::Property(WindowProperty::Numbers(NumberProperty::Leader)),
+    Name::Property(WindowProperty::Numbers(NumberProperty::TransientFor)),
+    Name::Property(WindowProperty::Text(TextProperty::OldTitle)),
+    Name::Property(WindowProperty::Text(TextProperty::Title)),
+    Name::Property(WindowProperty::Text(TextProperty::Machine)),
+    Name::Property(WindowProperty::Text(TextProperty::ClientId)),
+    Name::Property(WindowProperty::Numbers(NumberProperty::Types)),
+    Name::Property(WindowProperty::Numbers(NumberProperty::States)),
+    Name::Property(WindowProperty::Numbers(NumberProperty::UserTime)),
+    Name::Property(WindowProperty::Numbers(NumberProperty::UserTimeWindow)),
+    Name::Property(WindowProperty::Numbers(NumberProperty::Process)),
+    Name::Root(RootProperty::Check),
+    Name::Root(RootProperty::Windows),
+    Name::OfType(WindowType::Normal),
+    Name::OfType(WindowType::Dialog),
+    Name::OfType(WindowType::Dock),
+    Name::OfType(WindowType::Desktop),
+    Name::OfType(WindowType::Splash),
+    Name::OfType(WindowType::Utility),
+    Name::OfType(WindowType::Toolbar),
+    Name::OfType(WindowType::Menu),
+    Name::OfType(WindowType::DropdownMenu),
+    Name::OfType(WindowType::PopupMenu),
+    Name::OfType(WindowType::Tooltip),
+    Name::OfType(WindowType::Notification),
+    Name::OfType(WindowType::Combo),
+    Name::OfType(WindowType::DragAndDrop),
+    Name::Word(Word::DeleteWindow),
+    Name::Word(Word::Ping),
+    Name::Word(Word::Modal),
+    Name::Word(Word::ActiveWindow),
+];
+
 fn text_at(property: TextProperty) -> usize
     ensures { result ≡ text_place property }
 {
