@@ -5,7 +5,7 @@ use Rattle.display_messages.specs.Parts.{part_of}
 use Rattle.display_messages.specs.Replies.{reply_of}
 use Rattle.display_messages.specs.declared.reply.ReplyKind.{ReplyKind}
 use Rattle.display_messages.specs.declared.reply.Reply.{Reply}
-use Rattle.display_messages.specs.declared.reply.Reply.TheVariants.{Atom as IsAtom, NoProperty, Property as HasProperty, Attributes as HasAttributes, Tree as HasTree, Mark as IsMark, Extension as HasExtension, ResourceVersion as HasVersion, Process as HasProcess, NotUnderstood}
+use Rattle.display_messages.specs.declared.reply.Reply.TheVariants.{Attributes as HasAttributes}
 use Rattle.display_messages.specs.declared.part.DisplayError.{DisplayError}
 use Rattle.display_messages.specs.declared.part.ErrorKind.{ErrorKind}
 use Rattle.display_messages.specs.declared.part.ErrorKind.TheVariants.{BadWindow, Other as OtherKind}
@@ -17,11 +17,11 @@ use Rattle.window_follower.specs.Asked.{Settled, settled as settles}
 use Rattle.window_follower.specs.Facts.{fact_of, first_named, numbers_of}
 use Rattle.window_follower.specs.Atoms.{property_named, root_property_named}
 use Rattle.window_follower.specs.Questions.{answer_kind}
-use Rattle.window_follower.specs.Windows.{fresh, is_followed, is_listed, marked, told, settled, forgotten}
-use Rattle.window_follower.specs.Following.{asking, asking_about, asking_all, looked, forgetting, marking, again_in, look_again, following, come, come_all, led, timed, companion_in, accompanied, said, heard_of, is_check, gone}
-use Rattle.window_follower.specs.Answers.{answered, checked, checked_root, checked_window, children_heard, children_in, events_heard, extended, failed, is_listing, is_shown, list_heard, lost, names_processes, opcode_in, process_in, questions_below, root_heard, state_heard, unlisted, versioned}
-use Rattle.window_follower.specs.Taking.{Brought, behind, brings, error_brings, event_brings, heard, kind_brings, list_changed, news_of, part_brings, property_changed, reply_brings, root_changed, window_changed}
-use Rattle.window_follower.specs.Laws.{ChangesAreAskedFor, SentEventsChangeNothing, LeavesByItself, MayLeave, IsAnswered, IsDestroyed, IsMissing, IsNoticed, IsWithdrawn, Told, has_withdrawn, subject, told_by_answer, told_by_event}
+use Rattle.window_follower.specs.Windows.{fresh, is_followed, is_listed, told, settled, forgotten}
+use Rattle.window_follower.specs.Following.{asking, asking_about, asking_all, looked, forgetting, marking, again_in, look_again, following, come, come_all, companion_in, accompanied, said, heard_of, is_check, gone}
+use Rattle.window_follower.specs.Answers.{answered, checked, checked_root, checked_window, children_heard, children_in, events_heard, extended, failed, is_listing, is_shown, lost, names_processes, opcode_in, process_in, questions_below, root_heard, state_heard, unlisted, versioned}
+use Rattle.window_follower.specs.Taking.{Brought, behind, error_brings, event_brings, heard, kind_brings, list_changed, news_of, part_brings, property_changed, reply_brings, root_changed, window_changed}
+use Rattle.window_follower.specs.Laws.{ChangesAreAskedFor, SentEventsChangeNothing, LeavesByItself, MayLeave, Told, has_withdrawn, subject, told_by_answer, told_by_event}
 use Rattle.display_messages.specs.declared.part.WindowNotice.{WindowNotice}
 use Rattle.window_follower.specs.Names.{window_properties}
 use Rattle.window_follower.specs.declared.names.WindowProperty.TheVariants.{Text, Numbers}

@@ -2,7 +2,7 @@
 use Rattle.std.proofs.Common.{◌≡◌, ◌⊎◌, inl, inr, ℕ, ◌==◌, Bool, true, false, not, cond, ◌&&◌, ◌||◌, List, [], ◌∷◌, ◌++◌, refl, sym, ap, ◌∙◌}
 use Rattle.std.proofs.lemmas.Bool.{eqb-true, false≢true}
 use Rattle.window_follower.specs.Facts.{learned}
-use Rattle.window_follower.specs.Windows.{is_listed, has_left, fresh, marked, told, settled, forgotten}
+use Rattle.window_follower.specs.Windows.{is_listed, has_left, marked, told, settled, forgotten}
 use Rattle.window_follower.specs.Laws.{has_withdrawn}
 use Rattle.window_follower.specs.declared.facts.Fact.{Fact}
 use Rattle.window_follower.specs.declared.windows.Followed.{Followed}

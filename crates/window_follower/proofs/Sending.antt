@@ -45,8 +45,10 @@ few asked are = by (wants_mark asked) refl
   where
     sent : List Question
     sent = take (room asked) asked.waiting
+
     sums : (marks : List Question) → length ((asked.unanswered ++ sent) ++ marks) ≡ length asked.unanswered + length sent + length marks
     sums marks = length-append (asked.unanswered ++ sent) marks ∙ ap (λ (n : ℕ). n + length marks) (length-append asked.unanswered sent)
+
     by : (b : Bool) → wants_mark asked ≡ b → length ((asked.unanswered ++ sent) ++ mark_if b) ≤ 65535
     by true is = subst (λ (n : ℕ). n ≤ 65535) (sym (sums (mark_if true))) (few_sums 65534 (length asked.unanswered) (length sent) 1 (taken (room asked) asked.waiting) (omega arith) (leb-true (length asked.unanswered) 65534 (second_true (nat_lt (room asked) (length asked.waiting)) (nat_le (length asked.unanswered) 65534) is)))
     by false is = subst (λ (n : ℕ). n ≤ 65535) (sym (sums (mark_if false))) (few_unmarked 65534 (length asked.unanswered) (length sent) (taken (room asked) asked.waiting) are)

@@ -1,9 +1,8 @@
 -- Where one row is changed in its place.
-use Rattle.std.proofs.Common.{◌≡◌, ℕ, zero, suc, ◌<◌, ◌≤◌, ◌+◌, ◌==◌, Bool, true, false, cond, List, [], ◌∷◌, length, None, Some, refl, sym, ap, ap₂, ◌∙◌, arith, position, get_or, set}
+use Rattle.std.proofs.Common.{◌≡◌, ℕ, zero, suc, ◌<◌, ◌≤◌, ◌+◌, ◌==◌, Bool, true, false, List, [], ◌∷◌, length, None, Some, refl, ap, ◌∙◌, arith, position, get_or, set}
 use Rattle.std.specs.List.{position_or_len}
 use Rattle.std.proofs.lemmas.Grind.{common_steps}
 use Rattle.std.proofs.lemmas.List.Quantifiers.{position-Some}
-use Rattle.std.proofs.lemmas.Bool.{false≢true}
 use Rattle.window_follower.specs.Windows.{is_of, changed}
 use Rattle.window_follower.specs.declared.windows.Followed.{Followed}
 

@@ -5,8 +5,8 @@ use Rattle.display_messages.specs.declared.part.ErrorKind.TheVariants.{BadWindow
 use Rattle.display_messages.specs.declared.reply.Attributes.{Attributes}
 use Rattle.display_messages.specs.declared.reply.Reply.{Reply}
 use Rattle.display_messages.specs.declared.reply.Reply.TheVariants.{Atom as IsAtom, Attributes as HasAttributes, Tree as HasTree, Extension as HasExtension, ResourceVersion as HasVersion, Process as HasProcess}
-use Rattle.window_follower.specs.Facts.{fact_of, first_named, numbers_of, state_of}
-use Rattle.window_follower.specs.Following.{asking, asking_all, looked, begun_looking, come, come_all, gone, heard_of}
+use Rattle.window_follower.specs.Facts.{fact_of, first_named, numbers_of}
+use Rattle.window_follower.specs.Following.{asking, asking_all, begun_looking, come, come_all, gone, heard_of}
 use Rattle.window_follower.specs.declared.names.RootProperty.{RootProperty}
 use Rattle.window_follower.specs.declared.names.RootProperty.TheVariants.{Check, Windows}
 use Rattle.window_follower.specs.declared.question.Question.{Question}

@@ -1,7 +1,7 @@
 -- What a follower of windows is told, what it gives, and what it knows.
 use Rattle.std.specs.Prelude.{◌≡◌, ℕ, Bool, true, false, List, [], ◌∷◌, ◌++◌, map, Option, Some, None, Result, Ok, Err}
 use Rattle.display_messages.specs.declared.request.Request.{Request}
-use Rattle.window_follower.specs.Asked.{ask_all, sends, after_sending}
+use Rattle.window_follower.specs.Asked.{sends, after_sending}
 use Rattle.window_follower.specs.Names.{every_name}
 use Rattle.window_follower.specs.Questions.{request_of}
 use Rattle.window_follower.specs.Following.{asking}

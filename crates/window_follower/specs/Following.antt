@@ -1,5 +1,5 @@
 -- What becomes known of windows, and what is asked of the display for it.
-use Rattle.std.specs.Prelude.{ℕ, ◌==◌, Bool, true, false, ◌||◌, if◌then◌else◌, List, [], ◌∷◌, ◌++◌, map, Option, Some, None}
+use Rattle.std.specs.Prelude.{ℕ, ◌==◌, Bool, false, ◌||◌, if◌then◌else◌, List, [], ◌∷◌, ◌++◌, map, Option, Some, None}
 use Rattle.window_follower.specs.Asked.{ask, ask_all}
 use Rattle.window_follower.specs.Names.{window_properties}
 use Rattle.window_follower.specs.Windows.{fresh, forgotten, is_followed, is_listed, marked, settled, told}

@@ -1,5 +1,5 @@
 -- What holds of all that a follower is told.
-use Rattle.std.specs.Prelude.{◌≡◌, ◌⊎◌, ℕ, ◌≤◌, ◌==◌, Bool, true, false, ◌&&◌, List, [], ◌∷◌, ◌++◌, length, Option, Some, None}
+use Rattle.std.specs.Prelude.{◌≡◌, ◌⊎◌, ℕ, ◌≤◌, ◌==◌, Bool, true, false, ◌&&◌, List, length, Option, Some, None}
 use Rattle.std.specs.List.{list_any}
 use Rattle.display_messages.specs.Parts.{part_of}
 use Rattle.display_messages.specs.declared.part.WindowNotice.{WindowNotice}

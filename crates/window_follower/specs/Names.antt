@@ -1,5 +1,5 @@
 -- The names of the properties and words that are known (ICCCM, section 4.1; EWMH), and the order in which their atoms are asked for.
-use Rattle.std.specs.Prelude.{ℕ, ◌+◌, List, [], ◌∷◌, codes}
+use Rattle.std.specs.Prelude.{ℕ, List, [], ◌∷◌, codes}
 use Rattle.window_follower.specs.declared.names.TextProperty.{TextProperty}
 use Rattle.window_follower.specs.declared.names.TextProperty.TheVariants.{OldTitle, Title, Machine, ClientId}
 use Rattle.window_follower.specs.declared.names.NumberProperty.{NumberProperty}

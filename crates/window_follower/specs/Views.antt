@@ -1,5 +1,5 @@
 -- What is known of the windows of a program.
-use Rattle.std.specs.Prelude.{ℕ, ◌==◌, Bool, true, false, ◌&&◌, if◌then◌else◌, List, [], ◌∷◌, flat_map, find, is_some, Option, Some, None}
+use Rattle.std.specs.Prelude.{ℕ, ◌==◌, Bool, false, ◌&&◌, if◌then◌else◌, List, [], ◌∷◌, flat_map, find, is_some, Option, Some, None}
 use Rattle.std.specs.Option.{option_or}
 use Rattle.window_follower.specs.Facts.{process_of}
 use Rattle.window_follower.specs.Kinds.{kind_of}

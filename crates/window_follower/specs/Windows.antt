@@ -1,5 +1,5 @@
 -- The windows whose changes are heard.
-use Rattle.std.specs.Prelude.{ℕ, ◌==◌, Bool, true, false, not, ◌&&◌, if◌then◌else◌, List, [], ◌∷◌, ◌++◌, filter}
+use Rattle.std.specs.Prelude.{ℕ, ◌==◌, Bool, true, not, ◌&&◌, if◌then◌else◌, List, [], ◌∷◌, filter}
 use Rattle.std.specs.List.{list_any}
 use Rattle.window_follower.specs.Facts.{learned, nothing_known, is_withdrawn}
 use Rattle.window_follower.specs.declared.facts.Fact.{Fact}

@@ -138,8 +138,10 @@ impl AskedQueue {
     fn send_mark(&mut self, sent: &mut QuestionList) -> Result<(), NoMemory>
         requires { length self.old.unanswered ≤ 65534 }
         ensures sent { OnOk result (sent.new ≡ sent.old ++ Mark 0 ∷ []) }
-        ensures after { OnOk result (self.new ≡ record self.old { unanswered = self.old.unanswered
-            ++ Mark 0 ∷ [] }) }
+        ensures after { OnOk result (self.new ≡ record self.old {
+          unanswered = self.old.unanswered
+              ++ Mark 0 ∷ [];
+        }) }
     {
         self.unanswered.push_back(OWN_MARK)?;
         sent.push(OWN_MARK)

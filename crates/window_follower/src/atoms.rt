@@ -3,9 +3,7 @@ ghost use Rattle.window_follower.specs.Names.{number_place, place as place_of, p
 ghost use Rattle.window_follower.specs.declared.names.Name.TheVariants.{Property as OfWindow, Root as OfRoot, OfType};
 ghost use Rattle.window_follower.specs.Atoms.{atom_of, property_named, root_property_named, type_named};
 
-use crate::{
-    Name, NumberProperty, RootProperty, TextProperty, WindowProperty, WindowType, Word,
-};
+use crate::{Name, NumberProperty, RootProperty, TextProperty, WindowProperty, WindowType, Word};
 use owned_lists::{ListOf, NoMemory};
 use std::alloc::Global;
 use std::marker::Model;
@@ -164,11 +162,7 @@ fn place(name: Name) -> usize
 }
 
 /// The first of some properties of windows that has an atom.
-fn first_property(
-    atoms: &Atoms,
-    properties: &[WindowProperty],
-    atom: u32,
-) -> Option<WindowProperty>
+fn first_property(atoms: &Atoms, properties: &[WindowProperty], atom: u32) -> Option<WindowProperty>
     ensures { result ≡ find (λ property. atom_of atoms.now (OfWindow property) == atom) properties.now }
 {
     properties

@@ -175,7 +175,8 @@ impl WindowFacts {
         ensures { result ≡ is_of_this_machine host.now self.now.machine }
     {
         match &self.machine {
-            Some(machine) => machine.as_slice() == b"localhost".as_slice() || machine.as_slice() == host,
+            Some(machine) => machine.as_slice() == b"localhost".as_slice()
+                || machine.as_slice() == host,
             None => true,
         }
     }

@@ -8,10 +8,9 @@ ghost use Rattle.window_follower.specs.declared.follower.FollowFault.TheVariants
 
 use crate::atoms::EVERY_NAME;
 use crate::following::Following;
-use crate::views;
 use crate::{
     AskedQueue, Atoms, Followed, Kind, Mode, News, Question, RequestList, Windows, Wish,
-    requests_of,
+    requests_of, views,
 };
 use display_messages::WindowList;
 use owned_lists::NoMemory;

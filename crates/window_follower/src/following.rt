@@ -149,10 +149,7 @@ impl Following {
             return Ok(());
         }
         self.follow(window)?;
-        self.ask_about(
-            window,
-            &[WindowProperty::Numbers(NumberProperty::UserTime)],
-        )
+        self.ask_about(window, &[WindowProperty::Numbers(NumberProperty::UserTime)])
     }
 
     /// Something was heard of a window that is followed.

@@ -13,34 +13,65 @@ pub enum Question {
     /// The opcode of X-Resource.
     Extension,
     /// That X-Resource 1.2 is meant.
-    Version { opcode: u8 },
+    Version {
+        opcode: u8,
+    },
     /// These events of a window are to come.
-    Watch { window: u32, events: u32 },
+    Watch {
+        window: u32,
+        events: u32,
+    },
     /// A property of a window that is followed.
     Property {
         window: u32,
         property: WindowProperty,
     },
     /// A property of the root, or of the window that its check names.
-    Root { window: u32, property: RootProperty },
+    Root {
+        window: u32,
+        property: RootProperty,
+    },
     /// Who has asked for the events of the root.
-    Events { window: u32 },
+    Events {
+        window: u32,
+    },
     /// The process to which a window belongs.
-    Process { opcode: u8, window: u32 },
+    Process {
+        opcode: u8,
+        window: u32,
+    },
     /// The children of a window, which is so many levels below the root.
-    Children { window: u32, depth: u8 },
+    Children {
+        window: u32,
+        depth: u8,
+    },
     /// Whether a window that is so many levels below the root has a WM_STATE.
-    Managed { window: u32, depth: u8 },
+    Managed {
+        window: u32,
+        depth: u8,
+    },
     /// Whether a child of the root is shown.
-    Shown { window: u32 },
+    Shown {
+        window: u32,
+    },
     /// A window is asked to close.
-    Close { window: u32 },
+    Close {
+        window: u32,
+    },
     /// The window manager is asked to show a window.
-    Show { root: u32, window: u32 },
+    Show {
+        root: u32,
+        window: u32,
+    },
     /// A window's program is asked whether it listens.
-    Ping { window: u32, stamp: u32 },
+    Ping {
+        window: u32,
+        stamp: u32,
+    },
     /// A mark of the caller's; the one that is asked for by itself has the number 0.
-    Mark { number: u32 },
+    Mark {
+        number: u32,
+    },
 }
 
 /// Questions in the order in which they are asked.

@@ -50,23 +50,27 @@ fn message(window: u32, message: ClientMessage) -> Request
 fn protocols(atoms: &Atoms) -> u32
     ensures { result ≡ atom_of atoms.now (OfWindow (Numbers Protocols)) }
 {
-    atoms.atom(Name::Property(WindowProperty::Numbers(
-        NumberProperty::Protocols,
-    )))
+    atoms.atom(Name::Property(WindowProperty::Numbers(NumberProperty::Protocols)))
 }
 
 fn close(atoms: &Atoms, window: u32) -> Request
     ensures { result ≡ made_of atoms.now (Close window) }
 {
     let delete_window = atoms.atom(Name::Word(Word::DeleteWindow));
-    message(window, ClientMessage::close(window, protocols(atoms), delete_window))
+    message(
+        window,
+        ClientMessage::close(window, protocols(atoms), delete_window),
+    )
 }
 
 fn ping(atoms: &Atoms, window: u32, stamp: u32) -> Request
     ensures { result ≡ made_of atoms.now (Ping window stamp) }
 {
     let ping = atoms.atom(Name::Word(Word::Ping));
-    message(window, ClientMessage::ping(window, protocols(atoms), ping, stamp))
+    message(
+        window,
+        ClientMessage::ping(window, protocols(atoms), ping, stamp),
+    )
 }
 
 fn show(atoms: &Atoms, root: u32, window: u32) -> Request
@@ -92,7 +96,10 @@ pub fn request_of(alloc: Global, atoms: &Atoms, question: Question) -> Result<Re
             name: text(alloc, b"X-Resource")?,
         }),
         Question::Version { opcode } => Ok(Request::QueryResourceVersion { opcode }),
-        Question::Watch { window, events } => Ok(Request::ChangeWindowAttributes { window, events }),
+        Question::Watch { window, events } => Ok(Request::ChangeWindowAttributes {
+            window,
+            events,
+        }),
         Question::Property {
             window,
             property: asked,

@@ -88,7 +88,9 @@ impl Windows {
     pub fn is_listed(&self, window: u32) -> bool
         ensures { result ≡ listed_in window self.now }
     {
-        self.rows.iter().any(|row| row.window == window && row.listed)
+        self.rows
+            .iter()
+            .any(|row| row.window == window && row.listed)
     }
 
     /// A window is followed, of which nothing is known yet.

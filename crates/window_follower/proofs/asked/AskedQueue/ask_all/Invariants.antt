@@ -1,6 +1,5 @@
-use Rattle.std.proofs.Common.{◌≡◌, map, take}
+use Rattle.std.proofs.Common.{◌≡◌, take}
 use Rattle.window_follower.specs.Asked.{ask_all}
-use Rattle.window_follower.specs.declared.question.Question.TheVariants.{Property}
 use Rattle.window_follower.proofs.asked.AskedQueue.ask_all.Given as goal
 
 abbrev pub invariant-loop-question : goal.invariant-loop-question

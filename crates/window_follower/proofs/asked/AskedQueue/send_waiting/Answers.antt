@@ -1,4 +1,4 @@
-use Rattle.std.proofs.Common.{rules, arith, ◌≡◌, ◌++◌, ℕ, min, length, take, ap, ◌∙◌, List}
+use Rattle.std.proofs.Common.{rules, ◌≡◌, ◌++◌, ℕ, min, length, take, ap, ◌∙◌, List}
 use Rattle.std.proofs.lemmas.List.{take_min}
 use Rattle.window_follower.specs.Asked.{room, moved}
 use Rattle.window_follower.specs.declared.question.Question.{Question}
