@@ -43,7 +43,7 @@ use Rattle.window_follower.specs.declared.following.Companion.TheVariants.{None 
 use Rattle.window_follower.proofs.Listing.{listed_more, listed_marked, listed_told, listed_forgotten, listed_settled}
 
 -- the window was in a list, as is known here
-abbrev In : ℕ → Following → Type 0
+abbrev pub In : ℕ → Following → Type 0
 In w s = is_listed w s.windows ≡ true
 
 -- ---- what keeps all
@@ -246,14 +246,14 @@ abbrev next_or : Following → Option Brought → Following
 next_or s None = s
 next_or s (Some brought) = brought.next
 
-some_next : (a b : Brought) → Some a ≡ Some b → a.next ≡ b.next
+pub some_next : (a b : Brought) → Some a ≡ Some b → a.next ≡ b.next
 some_next a b e = ap (λ (o : Option Brought). next_or a.next o) e
 
 abbrev is_some_in : Option Brought → Bool
 is_some_in None = false
 is_some_in (Some brought) = true
 
-none_some : (b : Brought) → ◌≡◌ {A = Option Brought} None (Some b) → ⊥
+pub none_some : (b : Brought) → ◌≡◌ {A = Option Brought} None (Some b) → ⊥
 none_some b e = false≢true (ap is_some_in e)
 
 error_leaves : (sequence : ℕ) (error : DisplayError) (bytes : List ℕ) (s : Following) (brought : Brought) (w : ℕ) (o : Option Settled) → settles sequence s.asked ≡ o → error_brings error o s ≡ Some brought → In w s → Stays (Error sequence error) bytes w s brought.next

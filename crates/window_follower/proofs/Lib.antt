@@ -2,3 +2,4 @@ pub mod Sending
 pub mod WindowLaws
 pub mod Listing
 pub mod Leaving
+pub mod Coming

@@ -1,5 +1,5 @@
 -- What holds of all that a follower is told.
-use Rattle.std.specs.Prelude.{◌≡◌, ◌⊎◌, ℕ, ◌≤◌, ◌==◌, Bool, true, false, ◌&&◌, List, length, Option, Some, None}
+use Rattle.std.specs.Prelude.{◌≡◌, ◌⊎◌, ℕ, ◌≤◌, ◌==◌, Bool, true, false, ◌&&◌, ◌||◌, List, [], ◌∷◌, length, Option, Some, None}
 use Rattle.std.specs.List.{list_any}
 use Rattle.display_messages.specs.Parts.{part_of}
 use Rattle.display_messages.specs.declared.part.WindowNotice.{WindowNotice}
@@ -11,9 +11,9 @@ use Rattle.display_messages.specs.declared.part.Part.{Part}
 use Rattle.display_messages.specs.declared.part.Part.TheVariants.{Error, Reply as IsReply, Event as IsEvent}
 use Rattle.window_follower.specs.Asked.{Asked, Settled, settled, after_sending}
 use Rattle.window_follower.specs.Atoms.{property_named}
-use Rattle.window_follower.specs.Facts.{fact_of}
+use Rattle.window_follower.specs.Facts.{fact_of, numbers_of}
 use Rattle.window_follower.specs.Questions.{answer_kind}
-use Rattle.window_follower.specs.Answers.{process_in}
+use Rattle.window_follower.specs.Answers.{is_shown, process_in}
 use Rattle.display_messages.specs.Replies.{reply_of}
 use Rattle.display_messages.specs.declared.reply.ReplyKind.{ReplyKind}
 use Rattle.display_messages.specs.declared.reply.Reply.{Reply}
@@ -22,7 +22,8 @@ use Rattle.window_follower.specs.Following.{asking}
 use Rattle.window_follower.specs.Taking.{Brought, brings, pong_in}
 use Rattle.window_follower.specs.declared.names.WindowProperty.{WindowProperty}
 use Rattle.window_follower.specs.declared.question.Question.{Question}
-use Rattle.window_follower.specs.declared.question.Question.TheVariants.{Watch, Property, Process, Children, Managed, Shown, Close, Ping}
+use Rattle.window_follower.specs.declared.question.Question.TheVariants.{Watch, Property, Root, Process, Children, Managed, Shown, Close, Ping}
+use Rattle.window_follower.specs.declared.names.RootProperty.TheVariants.{Windows}
 use Rattle.window_follower.specs.declared.facts.Fact.{Fact}
 use Rattle.window_follower.specs.declared.facts.Fact.TheVariants.{Owner, Mapped}
 use Rattle.window_follower.specs.declared.windows.Followed.{Followed}
@@ -108,6 +109,32 @@ MayLeave part bytes s window = IsDestroyed part window ⊎ (IsMissing part s win
 abbrev pub LeavesByItself : Type 0
 LeavesByItself = (bytes : List ℕ) (s : Following) (brought : Brought) (window : ℕ) → brings bytes s ≡ Some brought → is_listed window s.windows ≡ true → (is_listed window brought.next.windows ≡ true) ⊎ MayLeave (part_of bytes) bytes s window
 
+-- shown or iconified
+abbrev pub is_shown_state : List ℕ → Bool
+is_shown_state [] = false
+is_shown_state (number ∷ numbers) = number == 1 || number == 3
+
+-- The answer to a question has the window: it is in the list of the window manager's, or has a WM_STATE of a window that is shown or iconified, or is shown below the root.
+abbrev pub Lists : Question → Reply → ℕ → Type 0
+Lists (Root other Windows) reply window = list_any (λ number. number == window) (numbers_of reply) ≡ true
+Lists (Managed other depth) reply window = (other ≡ window) × (is_shown_state (numbers_of reply) ≡ true)
+Lists (Shown other) reply window = (other ≡ window) × (is_shown reply ≡ true)
+Lists question reply window = ⊥
+
+-- the part is such an answer
+pub record IsFound (part : Part) (bytes : List ℕ) (s : Following) (window : ℕ) : Type 0 where
+  pub sequence : ℕ
+  pub asked : Settled
+  pub kind : ReplyKind
+  pub part_is : part ≡ IsReply sequence
+  pub question : settled sequence s.asked ≡ Some asked
+  pub answer : answer_kind asked.question ≡ Some kind
+  pub lists : Lists asked.question (reply_of kind bytes) window
+
+-- A window is in the view only since it was in a list, or was found below the root.
+abbrev pub ComesByLists : Type 0
+ComesByLists = (bytes : List ℕ) (s : Following) (brought : Brought) (window : ℕ) → brings bytes s ≡ Some brought → is_listed window brought.next.windows ≡ true → (is_listed window s.windows ≡ true) ⊎ IsFound (part_of bytes) bytes s window
+
 -- After a change of a property of a window that is followed it is asked for once more.
 abbrev pub ChangesAreAskedFor : Type 0
 ChangesAreAskedFor = (bytes : List ℕ) (s : Following) (window atom : ℕ) (property : WindowProperty) → part_of bytes ≡ IsEvent false (PropertyNotify window atom) → (window == s.root) ≡ false → is_followed window s.windows ≡ true → property_named s.atoms atom ≡ Some property → (brought : Brought) → brings bytes s ≡ Some brought → brought.next ≡ asking (Property window property) s
@@ -118,6 +145,7 @@ FewAreOpen = (asked : Asked) → length asked.unanswered ≤ 65535 → length (a
 
 pub record Follows : Type 0 where
   pub sent : SentEventsChangeNothing
+  pub comes : ComesByLists
   pub leaves : LeavesByItself
   pub changes : ChangesAreAskedFor
   pub few : FewAreOpen
