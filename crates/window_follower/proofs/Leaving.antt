@@ -13,15 +13,15 @@ use Rattle.display_messages.specs.declared.part.Event.{Event}
 use Rattle.display_messages.specs.declared.part.Event.TheVariants.{CreateNotify, DestroyNotify, UnmapNotify, MapNotify, ReparentNotify, PropertyNotify, Message, Other}
 use Rattle.display_messages.specs.declared.part.Part.{Part}
 use Rattle.display_messages.specs.declared.part.Part.TheVariants.{Error, Reply as IsReply, Event as IsEvent, Short}
-use Rattle.window_follower.specs.Asked.{Settled, settled as settles}
+use Rattle.window_follower.specs.Asked.{Asked, Settled, settled as settles}
 use Rattle.window_follower.specs.Facts.{fact_of, first_named, numbers_of}
 use Rattle.window_follower.specs.Atoms.{property_named, root_property_named}
 use Rattle.window_follower.specs.Questions.{answer_kind}
 use Rattle.window_follower.specs.Windows.{fresh, is_followed, is_listed, told, settled, forgotten}
-use Rattle.window_follower.specs.Following.{asking, asking_about, asking_all, looked, forgetting, marking, again_in, look_again, following, come, come_all, companion_in, accompanied, said, heard_of, is_check, gone}
+use Rattle.window_follower.specs.Following.{questions_about, asking, asking_about, asking_all, looked, forgetting, marking, again_in, look_again, following, come, come_all, companion_in, accompanied, said, heard_of, is_check, gone}
 use Rattle.window_follower.specs.Answers.{answered, checked, checked_root, checked_window, children_heard, children_in, events_heard, extended, failed, is_listing, is_shown, lost, names_processes, opcode_in, process_in, questions_below, root_heard, state_heard, unlisted, versioned}
 use Rattle.window_follower.specs.Taking.{Brought, behind, error_brings, event_brings, heard, kind_brings, list_changed, news_of, part_brings, property_changed, reply_brings, root_changed, window_changed}
-use Rattle.window_follower.specs.Laws.{ChangesAreAskedFor, SentEventsChangeNothing, LeavesByItself, MayLeave, Told, has_withdrawn, subject, told_by_answer, told_by_event}
+use Rattle.window_follower.specs.Laws.{ChangesAreAskedFor, ChangesAreHeardFirst, SentEventsChangeNothing, LeavesByItself, MayLeave, Told, has_withdrawn, subject, told_by_answer, told_by_event}
 use Rattle.display_messages.specs.declared.part.WindowNotice.{WindowNotice}
 use Rattle.window_follower.specs.Names.{window_properties}
 use Rattle.window_follower.specs.declared.names.WindowProperty.TheVariants.{Text, Numbers}
@@ -307,3 +307,17 @@ asked_again s v atom property apart follows named =
 pub changes : ChangesAreAskedFor
 changes bytes s v atom property is apart follows named brought e =
     sym (some_next (event_brings false (PropertyNotify v atom) s) brought (sym (ap (λ (part : Part). part_brings part bytes s) is) ∙ e)) ∙ asked_again s v atom property apart follows named
+
+same_asked : (v : ℕ) (b : Bool) (s : Following) → (cond b s (record s { windows = s.windows ++ fresh v false ∷ [] })).asked ≡ s.asked
+same_asked v true s = refl
+same_asked v false s = refl
+
+same_resource : (v : ℕ) (b : Bool) (s : Following) → (cond b s (record s { windows = s.windows ++ fresh v false ∷ [] })).resource ≡ s.resource
+same_resource v true s = refl
+same_resource v false s = refl
+
+pub first : ChangesAreHeardFirst
+first s v new =
+    ap (λ (b : Bool). (cond b s (asking_about v window_properties (marking v (following v s)))).asked.waiting) new
+    ∙ (ap (λ (asked : Asked). asked.waiting ++ questions_about (following v s).resource v window_properties) (same_asked v (is_followed v s.windows) s)
+    ∙ ap (λ (resource : Option ℕ). s.asked.waiting ++ questions_about resource v window_properties) (same_resource v (is_followed v s.windows) s))

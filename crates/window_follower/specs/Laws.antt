@@ -1,5 +1,5 @@
 -- What holds of all that a follower is told.
-use Rattle.std.specs.Prelude.{◌≡◌, ◌⊎◌, ℕ, ◌≤◌, ◌==◌, Bool, true, false, ◌&&◌, ◌||◌, List, [], ◌∷◌, length, Option, Some, None}
+use Rattle.std.specs.Prelude.{◌≡◌, ◌⊎◌, ℕ, ◌≤◌, ◌==◌, Bool, true, false, ◌&&◌, ◌||◌, List, [], ◌∷◌, ◌++◌, length, map, Option, Some, None}
 use Rattle.std.specs.List.{list_any}
 use Rattle.display_messages.specs.Parts.{part_of}
 use Rattle.display_messages.specs.declared.part.WindowNotice.{WindowNotice}
@@ -18,7 +18,8 @@ use Rattle.display_messages.specs.Replies.{reply_of}
 use Rattle.display_messages.specs.declared.reply.ReplyKind.{ReplyKind}
 use Rattle.display_messages.specs.declared.reply.Reply.{Reply}
 use Rattle.window_follower.specs.Windows.{is_followed, is_listed, has_left, told}
-use Rattle.window_follower.specs.Following.{asking}
+use Rattle.window_follower.specs.Following.{asking, come, process_questions}
+use Rattle.window_follower.specs.Names.{window_properties}
 use Rattle.window_follower.specs.Taking.{Brought, brings, pong_in}
 use Rattle.window_follower.specs.declared.names.WindowProperty.{WindowProperty}
 use Rattle.window_follower.specs.declared.question.Question.{Question}
@@ -139,6 +140,10 @@ ComesByLists = (bytes : List ℕ) (s : Following) (brought : Brought) (window : 
 abbrev pub ChangesAreAskedFor : Type 0
 ChangesAreAskedFor = (bytes : List ℕ) (s : Following) (window atom : ℕ) (property : WindowProperty) → part_of bytes ≡ IsEvent false (PropertyNotify window atom) → (window == s.root) ≡ false → is_followed window s.windows ≡ true → property_named s.atoms atom ≡ Some property → (brought : Brought) → brings bytes s ≡ Some brought → brought.next ≡ asking (Property window property) s
 
+-- Of a window that is new in a list it is asked for the changes first, and then for the properties and the process.
+abbrev pub ChangesAreHeardFirst : Type 0
+ChangesAreHeardFirst = (s : Following) (window : ℕ) → (window == 0 || (window == s.root || is_listed window s.windows)) ≡ false → (come window s).asked.waiting ≡ s.asked.waiting ++ (Watch window 4325376 ∷ (map (λ property. Property window property) window_properties ++ process_questions s.resource window))
+
 -- Never more than 65,535 questions are open.
 abbrev pub FewAreOpen : Type 0
 FewAreOpen = (asked : Asked) → length asked.unanswered ≤ 65535 → length (after_sending asked).unanswered ≤ 65535
@@ -148,4 +153,5 @@ pub record Follows : Type 0 where
   pub comes : ComesByLists
   pub leaves : LeavesByItself
   pub changes : ChangesAreAskedFor
+  pub first : ChangesAreHeardFirst
   pub few : FewAreOpen

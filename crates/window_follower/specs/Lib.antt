@@ -11,3 +11,4 @@ pub mod Taking
 pub mod Views
 pub mod Follower
 pub mod Laws
+pub mod Examples
