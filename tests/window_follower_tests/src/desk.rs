@@ -83,6 +83,11 @@ impl Desk {
         self.send(requests)
     }
 
+    /// How much was asked and isn't answered.
+    pub fn asked_count(&self) -> usize {
+        self.asked.len()
+    }
+
     /// The last of what was asked, as it shows itself.
     pub fn last_asked(&self) -> Result<String, Fail> {
         match self.asked.back() {
