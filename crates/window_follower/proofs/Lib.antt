@@ -3,3 +3,5 @@ pub mod WindowLaws
 pub mod Listing
 pub mod Leaving
 pub mod Coming
+pub mod Naming
+pub mod Fitting

@@ -1,5 +1,5 @@
 -- What holds of all that a follower is told.
-use Rattle.std.specs.Prelude.{◌≡◌, ◌⊎◌, ℕ, ◌≤◌, ◌==◌, Bool, true, false, ◌&&◌, ◌||◌, List, [], ◌∷◌, ◌++◌, length, map, Option, Some, None}
+use Rattle.std.specs.Prelude.{◌≡◌, ◌⊎◌, ℕ, ◌≤◌, ◌==◌, Bool, true, false, ◌&&◌, ◌||◌, List, [], ◌∷◌, ◌++◌, length, map, slice_index_or, is_some, Option, Some, None}
 use Rattle.std.specs.List.{list_any}
 use Rattle.display_messages.specs.Parts.{part_of}
 use Rattle.display_messages.specs.declared.part.WindowNotice.{WindowNotice}
@@ -12,14 +12,15 @@ use Rattle.display_messages.specs.declared.part.Part.TheVariants.{Error, Reply a
 use Rattle.window_follower.specs.Asked.{Asked, Settled, settled, after_sending}
 use Rattle.window_follower.specs.Atoms.{property_named}
 use Rattle.window_follower.specs.Facts.{fact_of, numbers_of}
-use Rattle.window_follower.specs.Questions.{answer_kind}
+use Rattle.window_follower.specs.Questions.{answer_kind, has_answer, request_of}
 use Rattle.window_follower.specs.Answers.{is_shown, process_in}
-use Rattle.display_messages.specs.Replies.{reply_of}
+use Rattle.display_messages.specs.Replies.{kind_of, reply_of}
 use Rattle.display_messages.specs.declared.reply.ReplyKind.{ReplyKind}
 use Rattle.display_messages.specs.declared.reply.Reply.{Reply}
 use Rattle.window_follower.specs.Windows.{is_followed, is_listed, has_left, told}
 use Rattle.window_follower.specs.Following.{asking, come, process_questions}
-use Rattle.window_follower.specs.Names.{window_properties}
+use Rattle.window_follower.specs.Names.{every_name, place, window_properties}
+use Rattle.window_follower.specs.declared.names.Name.{Name}
 use Rattle.window_follower.specs.Taking.{Brought, brings, pong_in}
 use Rattle.window_follower.specs.declared.names.WindowProperty.{WindowProperty}
 use Rattle.window_follower.specs.declared.question.Question.{Question}
@@ -144,6 +145,14 @@ ChangesAreAskedFor = (bytes : List ℕ) (s : Following) (window atom : ℕ) (pro
 abbrev pub ChangesAreHeardFirst : Type 0
 ChangesAreHeardFirst = (s : Following) (window : ℕ) → (window == 0 || (window == s.root || is_listed window s.windows)) ≡ false → (come window s).asked.waiting ≡ s.asked.waiting ++ (Watch window 4325376 ∷ (map (λ property. Property window property) window_properties ++ process_questions s.resource window))
 
+-- A question has the reply of its request, or none where that has none.
+abbrev pub AnswersFitRequests : Type 0
+AnswersFitRequests = (atoms : List ℕ) (question : Question) → (answer_kind question ≡ kind_of (request_of atoms question)) × (has_answer question ≡ is_some (answer_kind question))
+
+-- The atoms come in the order in which they are asked for, so each name's atom stands at its place.
+abbrev pub NamesHaveTheirPlaces : Type 0
+NamesHaveTheirPlaces = (name other : Name) → slice_index_or every_name (place name) other ≡ name
+
 -- Never more than 65,535 questions are open.
 abbrev pub FewAreOpen : Type 0
 FewAreOpen = (asked : Asked) → length asked.unanswered ≤ 65535 → length (after_sending asked).unanswered ≤ 65535
@@ -154,4 +163,6 @@ pub record Follows : Type 0 where
   pub leaves : LeavesByItself
   pub changes : ChangesAreAskedFor
   pub first : ChangesAreHeardFirst
+  pub answers : AnswersFitRequests
+  pub places : NamesHaveTheirPlaces
   pub few : FewAreOpen

@@ -1,9 +1,10 @@
 ghost use Rattle.window_follower.specs.Examples.{Examples};
 ghost use Rattle.window_follower.specs.Laws.{Follows};
 
-/// Does nothing: its contract is laws of all parts of a stream. An event that a program sent changes
-/// nothing; a window leaves only by itself; a change is asked for; and few questions are open.
-pub fn windows_leave_by_themselves()
+/// Does nothing: its contract is laws of all that a follower is told. A window comes by lists alone and
+/// leaves only by itself; an event that a program sent changes nothing; changes are heard before they are
+/// asked for, and each is asked for; few questions are open, and each has the reply of its request.
+pub fn windows_are_followed()
     ensures { Follows }
 {}
 

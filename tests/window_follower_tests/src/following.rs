@@ -5,7 +5,7 @@ use crate::desk::Desk;
 use std::alloc::Global;
 use std::test::Fail;
 use test_tables::expect_rows;
-use window_follower::{Followed, Mode, Wish, windows_leave_by_themselves};
+use window_follower::{Followed, Mode, Wish, windows_are_followed};
 
 fn mode_word(mode: Mode) -> &'static str {
     match mode {
@@ -152,6 +152,6 @@ mark 4 => GetInputFocus mark 4 ";
 
 #[test]
 fn wishes_are_sent(rt: HostRuntime) -> Result<(), Fail> {
-    windows_leave_by_themselves();
+    windows_are_followed();
     expect_rows(&rt, WISHES, wished)
 }

@@ -1,7 +1,0 @@
-use Rattle.window_follower.proofs.Sending.{few}
-use Rattle.window_follower.proofs.Coming.{comes}
-use Rattle.window_follower.proofs.Leaving.{changes, first, leaves, sent}
-use Rattle.window_follower.proofs.laws.windows_leave_by_themselves.Goals as goal
-
-pub returns : goal.returns
-returns c = record { sent = sent; comes = comes; leaves = leaves; changes = changes; first = first; few = few }
