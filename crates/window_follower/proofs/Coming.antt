@@ -1,7 +1,6 @@
 -- A window is in the view only since it was in a list.
-use Rattle.std.proofs.Common.{◌≡◌, ◌⊎◌, inl, inr, ℕ, ◌==◌, nat_lt, Bool, true, false, not, cond, ◌||◌, List, [], ◌∷◌, ◌++◌, Option, Some, None, refl, sym, ap, subst, ◌∙◌, eq-eqb}
+use Rattle.std.proofs.Common.{◌≡◌, ◌⊎◌, inl, inr, ℕ, ◌==◌, nat_lt, Bool, true, false, not, cond, ◌||◌, List, [], ◌∷◌, ◌++◌, Option, Some, None, refl, sym, subst, eq-eqb}
 use Rattle.std.specs.List.{list_any}
-use Rattle.std.proofs.lemmas.Bool.{eqb-true, false≢true}
 use Rattle.display_messages.specs.Parts.{part_of}
 use Rattle.display_messages.specs.Replies.{reply_of}
 use Rattle.display_messages.specs.declared.reply.ReplyKind.{ReplyKind}
@@ -18,13 +17,12 @@ use Rattle.window_follower.specs.Asked.{Settled, settled as settles}
 use Rattle.window_follower.specs.Facts.{fact_of, first_named, numbers_of}
 use Rattle.window_follower.specs.Atoms.{property_named, root_property_named}
 use Rattle.window_follower.specs.Questions.{answer_kind}
-use Rattle.window_follower.specs.Windows.{has_left, fresh, is_followed, is_listed, told, settled, forgotten}
+use Rattle.window_follower.specs.Windows.{has_left, fresh, is_followed, is_listed, told, settled}
 use Rattle.window_follower.specs.Following.{asking, asking_about, asking_all, looked, forgetting, marking, again_in, look_again, following, come, come_all, companion_in, accompanied, said, heard_of, is_check, gone}
-use Rattle.window_follower.specs.Answers.{answered, checked, checked_root, checked_window, children_heard, children_in, events_heard, extended, failed, is_listing, is_shown, lost, names_processes, opcode_in, process_in, questions_below, root_heard, state_heard, unlisted, versioned}
+use Rattle.window_follower.specs.Answers.{answered, checked, checked_root, checked_window, children_heard, children_in, events_heard, extended, failed, is_listing, is_shown, lost, names_processes, opcode_in, process_in, questions_below, state_heard, unlisted, versioned}
 use Rattle.window_follower.specs.Taking.{Brought, behind, error_brings, event_brings, heard, kind_brings, list_changed, news_of, part_brings, property_changed, reply_brings, root_changed, window_changed}
 use Rattle.window_follower.specs.Laws.{ComesByLists, IsFound, Lists, is_shown_state}
 use Rattle.window_follower.proofs.Leaving.{In, none_some, some_next}
-use Rattle.display_messages.specs.declared.part.WindowNotice.{WindowNotice}
 use Rattle.window_follower.specs.Names.{window_properties}
 use Rattle.window_follower.specs.declared.names.WindowProperty.TheVariants.{Text, Numbers}
 use Rattle.window_follower.specs.declared.names.TextProperty.TheVariants.{ClientId}
@@ -74,6 +72,7 @@ was_come_all w (v ∷ vs) s i = on (was_come_all w vs (come v s) i)
     first : In w s ⊎ (v ≡ w) → In w s ⊎ (((v == w) || list_any (λ n. n == w) vs) ≡ true)
     first (inl j) = inl j
     first (inr e) = inr (or_first (v == w) (list_any (λ n. n == w) vs) (eq-eqb v w e))
+
     on : In w (come v s) ⊎ (list_any (λ n. n == w) vs ≡ true) → In w s ⊎ (((v == w) || list_any (λ n. n == w) vs) ≡ true)
     on (inl j) = first (was_come w v s j)
     on (inr more) = inr (or_more (v == w) (list_any (λ n. n == w) vs) more)

@@ -117,9 +117,11 @@ was_marked v w (row ∷ rows) e = by (row.window == v) refl (was_marked v w rows
     first : (b : Bool) → (row.window == w) ≡ b → row.window ≡ v → ((b && true) || is_listed w rows) ≡ true → (((b && row.listed) || is_listed w rows) ≡ true) ⊎ (v ≡ w)
     first true same is e = inr (sym is ∙ eqb-true row.window w same)
     first false other is e = inl e
+
     later : (x : Bool) → (is_listed w (marked v rows) ≡ true → (is_listed w rows ≡ true) ⊎ (v ≡ w)) → (x || is_listed w (marked v rows)) ≡ true → ((x || is_listed w rows) ≡ true) ⊎ (v ≡ w)
     later true rest e = inl refl
     later false rest e = rest e
+
     by : (b : Bool) → (row.window == v) ≡ b → (is_listed w (marked v rows) ≡ true → (is_listed w rows ≡ true) ⊎ (v ≡ w)) → is_listed w (cond b (record row { listed = true } ∷ rows) (row ∷ marked v rows)) ≡ true → (is_listed w (row ∷ rows) ≡ true) ⊎ (v ≡ w)
     by true is rest e = first (row.window == w) refl (eqb-true row.window v is) e
     by false is rest e = later (row.window == w && row.listed) rest e

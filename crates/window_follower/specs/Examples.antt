@@ -1,14 +1,12 @@
 -- Windows as they were met, and answers in their order.
-use Rattle.std.specs.Prelude.{◌≡◌, ℕ, true, false, List, [], ◌∷◌, Some, None}
-use Rattle.window_follower.specs.Asked.{Asked, settled, sends}
+use Rattle.std.specs.Prelude.{◌≡◌, true, false, [], ◌∷◌, Some, None}
+use Rattle.window_follower.specs.Asked.{Asked, settled}
 use Rattle.window_follower.specs.Facts.{is_local, is_withdrawn, learned, nothing_known, process_of, state_of}
 use Rattle.window_follower.specs.Kinds.{kind_of}
-use Rattle.window_follower.specs.declared.names.Name.TheVariants.{Word}
-use Rattle.window_follower.specs.declared.names.Word.TheVariants.{Ping as IsPing}
 use Rattle.window_follower.specs.declared.names.WindowType.TheVariants.{Normal as ForNormal, Dialog, Dock, Desktop, Splash, Tooltip}
-use Rattle.window_follower.specs.declared.question.Question.TheVariants.{Atom, Extension, Watch, Mark}
-use Rattle.window_follower.specs.declared.facts.WindowState.TheVariants.{Withdrawn, Normal, Iconic}
-use Rattle.window_follower.specs.declared.facts.Fact.TheVariants.{State, Mapped, Owner, Stated}
+use Rattle.window_follower.specs.declared.question.Question.TheVariants.{Extension, Watch}
+use Rattle.window_follower.specs.declared.facts.WindowState.TheVariants.{Withdrawn, Iconic}
+use Rattle.window_follower.specs.declared.facts.Fact.TheVariants.{State, Owner, Stated}
 use Rattle.window_follower.specs.declared.facts.WindowFacts.{WindowFacts}
 use Rattle.window_follower.specs.declared.kinds.Kind.TheVariants.{Main, Auxiliary, Fixed, Passing}
 

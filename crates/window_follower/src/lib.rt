@@ -25,7 +25,7 @@ pub use atoms::Atoms;
 pub use facts::{Fact, WindowFacts, WindowState};
 pub use follower::{FollowFault, Follower, Took};
 pub use kinds::{Kind, kind_of};
-pub use laws::{windows_as_they_were_met, windows_are_followed};
+pub use laws::{windows_are_followed, windows_as_they_were_met};
 pub use mode::Mode;
 pub use names::{
     Name, NumberProperty, RootProperty, TextProperty, WindowProperty, WindowType, Word, spelling,
