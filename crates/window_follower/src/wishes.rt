@@ -7,6 +7,7 @@ pub enum Wish {
     Show { window: u32 },
     /// A window's program is asked whether it listens; its answer is `News::Pong` with this stamp.
     Ping { window: u32, stamp: u32 },
-    /// `News::Marked` with this number comes once all is answered that was asked before.
+    /// `News::Marked` with this number comes once all is answered that was asked before. 0 is the number of
+    /// the marks that are asked for by themselves.
     Mark { number: u32 },
 }
