@@ -1,12 +1,13 @@
 -- What waits is asked one after the other.
-use Rattle.std.proofs.Common.{◌≡◌, ℕ, ◌+◌, ◌-◌, ◌≤◌, min, List, ◌++◌, length, take, drop, sym, ap, ap₂, ◌∙◌, append_assoc, length-append, arith, subst, Bool, true, false, nat_lt, nat_le, ◌&&◌, refl}
-use Rattle.std.proofs.lemmas.Bool.{leb-true, false≢true}
+use Rattle.std.proofs.Common.{◌≡◌, ℕ, ◌+◌, ◌-◌, ◌≤◌, min, List, ◌++◌, length, take, drop, sym, ap, ap₂, ◌∙◌, append_assoc, length-append, arith, subst, Bool, true, false, nat_lt, nat_le, ◌&&◌, refl, [], ◌∷◌, ◌⊎◌, inl, inr}
+use Rattle.std.proofs.lemmas.Bool.{leb-true, le-leb, ltb-false, false≢true}
 use Rattle.std.proofs.lemmas.Grind.{common_steps}
 use Rattle.std.proofs.Math.Seq.{take-add}
-use Rattle.std.proofs.lemmas.List.{drop-drop, take_min, drop_min}
+use Rattle.std.proofs.lemmas.List.{drop_all, drop-drop, take_min, drop_min}
 use Rattle.window_follower.specs.Asked.{Asked, moved, room, wants_mark, mark_if}
-use Rattle.window_follower.specs.Laws.{FewAreOpen}
+use Rattle.window_follower.specs.Laws.{AMarkIsAskedFor, FewAreOpen}
 use Rattle.window_follower.specs.declared.question.Question.{Question}
+use Rattle.window_follower.specs.declared.question.Question.TheVariants.{Mark}
 
 pub sent_more : (n : ℕ) (xs ws : List Question) → (xs ++ take n ws) ++ take 1 (drop n ws) ≡ xs ++ take (n + 1) ws
 sent_more n xs ws = append_assoc xs (take n ws) (take 1 (drop n ws)) ∙ ap (λ ys. xs ++ ys) (sym (take-add n 1 ws))
@@ -52,3 +53,13 @@ few asked are = by (wants_mark asked) refl
     by : (b : Bool) → wants_mark asked ≡ b → length ((asked.unanswered ++ sent) ++ mark_if b) ≤ 65535
     by true is = subst (λ (n : ℕ). n ≤ 65535) (sym (sums (mark_if true))) (few_sums 65534 (length asked.unanswered) (length sent) 1 (taken (room asked) asked.waiting) (omega arith) (leb-true (length asked.unanswered) 65534 (second_true (nat_lt (room asked) (length asked.waiting)) (nat_le (length asked.unanswered) 65534) is)))
     by false is = subst (λ (n : ℕ). n ≤ 65535) (sym (sums (mark_if false))) (few_unmarked 65534 (length asked.unanswered) (length sent) (taken (room asked) asked.waiting) are)
+
+-- where more waits than there was room for, a mark is last
+pub mark : AMarkIsAskedFor
+mark asked few_open = by (nat_lt (room asked) (length asked.waiting)) refl
+  where
+    by : (b : Bool) → nat_lt (room asked) (length asked.waiting) ≡ b → (drop (room asked) asked.waiting ≡ []) ⊎ (((asked.unanswered ++ take (room asked) asked.waiting) ++ mark_if (wants_mark asked)) ≡ ((asked.unanswered ++ take (room asked) asked.waiting) ++ Mark 0 ∷ []))
+    by true is =
+        let wants : wants_mark asked ≡ true = ap (λ (b : Bool). b && nat_le (length asked.unanswered) 65534) is ∙ le-leb (length asked.unanswered) 65534 few_open in
+        inr (ap (λ (b : Bool). (asked.unanswered ++ take (room asked) asked.waiting) ++ mark_if b) wants)
+    by false is = inl (drop_all (room asked) asked.waiting (ltb-false (room asked) (length asked.waiting) is))

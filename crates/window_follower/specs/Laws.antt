@@ -1,5 +1,5 @@
 -- What holds of all that a follower is told.
-use Rattle.std.specs.Prelude.{◌≡◌, ◌⊎◌, ℕ, ◌≤◌, ◌==◌, Bool, true, false, ◌&&◌, ◌||◌, List, [], ◌∷◌, ◌++◌, length, map, slice_index_or, is_some, Option, Some, None}
+use Rattle.std.specs.Prelude.{take, ◌≡◌, ◌⊎◌, ℕ, ◌≤◌, ◌==◌, Bool, true, false, ◌&&◌, ◌||◌, List, [], ◌∷◌, ◌++◌, length, map, slice_index_or, is_some, Option, Some, None}
 use Rattle.std.specs.List.{list_any}
 use Rattle.display_messages.specs.Parts.{part_of}
 use Rattle.display_messages.specs.declared.part.WindowNotice.{WindowNotice}
@@ -9,7 +9,7 @@ use Rattle.display_messages.specs.declared.part.Event.{Event}
 use Rattle.display_messages.specs.declared.part.Event.TheVariants.{DestroyNotify, UnmapNotify, MapNotify, PropertyNotify}
 use Rattle.display_messages.specs.declared.part.Part.{Part}
 use Rattle.display_messages.specs.declared.part.Part.TheVariants.{Error, Reply as IsReply, Event as IsEvent}
-use Rattle.window_follower.specs.Asked.{Asked, Settled, settled, after_sending}
+use Rattle.window_follower.specs.Asked.{room, Asked, Settled, settled, after_sending}
 use Rattle.window_follower.specs.Atoms.{property_named}
 use Rattle.window_follower.specs.Facts.{fact_of, numbers_of}
 use Rattle.window_follower.specs.Questions.{answer_kind, has_answer, request_of}
@@ -24,7 +24,7 @@ use Rattle.window_follower.specs.declared.names.Name.{Name}
 use Rattle.window_follower.specs.Taking.{Brought, brings, pong_in}
 use Rattle.window_follower.specs.declared.names.WindowProperty.{WindowProperty}
 use Rattle.window_follower.specs.declared.question.Question.{Question}
-use Rattle.window_follower.specs.declared.question.Question.TheVariants.{Watch, Property, Root, Process, Children, Managed, Shown, Close, Ping}
+use Rattle.window_follower.specs.declared.question.Question.TheVariants.{Watch, Property, Root, Process, Children, Managed, Shown, Close, Ping, Mark}
 use Rattle.window_follower.specs.declared.names.RootProperty.TheVariants.{Windows}
 use Rattle.window_follower.specs.declared.facts.Fact.{Fact}
 use Rattle.window_follower.specs.declared.facts.Fact.TheVariants.{Owner, Mapped}
@@ -157,6 +157,10 @@ NamesHaveTheirPlaces = (name other : Name) → slice_index_or every_name (place 
 abbrev pub FewAreOpen : Type 0
 FewAreOpen = (asked : Asked) → length asked.unanswered ≤ 65535 → length (after_sending asked).unanswered ≤ 65535
 
+-- Behind a sending nothing waits, or a mark is the last that is open, but where 65,535 were open already.
+abbrev pub AMarkIsAskedFor : Type 0
+AMarkIsAskedFor = (asked : Asked) → length asked.unanswered ≤ 65534 → ((after_sending asked).waiting ≡ []) ⊎ ((after_sending asked).unanswered ≡ (asked.unanswered ++ take (room asked) asked.waiting) ++ Mark 0 ∷ [])
+
 pub record Follows : Type 0 where
   pub sent : SentEventsChangeNothing
   pub comes : ComesByLists
@@ -166,3 +170,4 @@ pub record Follows : Type 0 where
   pub answers : AnswersFitRequests
   pub places : NamesHaveTheirPlaces
   pub few : FewAreOpen
+  pub mark : AMarkIsAskedFor
