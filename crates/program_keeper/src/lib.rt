@@ -1,0 +1,9 @@
+//! The keeper of one program that knows no session: it speaks for it as its client, and talks with its
+//! user by asking the program's windows to close.
+#![tactic(auto)]
+
+mod talk;
+mod windows;
+
+pub use talk::{Move, UserTalk};
+pub use windows::{Window, WindowKind, WindowList, WindowNumbers};
