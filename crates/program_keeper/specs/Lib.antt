@@ -1,2 +1,6 @@
 pub mod Windows
 pub mod Talking
+pub mod Programs
+pub mod Script
+pub mod Standing
+pub mod Doing

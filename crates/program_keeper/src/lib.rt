@@ -2,8 +2,13 @@
 //! user by asking the program's windows to close.
 #![tactic(auto)]
 
+mod acts;
+mod program;
+mod progress;
+mod saying;
 mod talk;
 mod windows;
 
+pub use acts::{KeeperAct, KeeperActs, KeeperFault};
 pub use talk::{Move, UserTalk};
 pub use windows::{Window, WindowKind, WindowList, WindowNumbers};
