@@ -1,1 +1,2 @@
 pub mod TalkLaws
+pub mod GoingLaws

@@ -3,6 +3,7 @@
 #![tactic(auto)]
 
 mod acts;
+mod going;
 mod program;
 mod progress;
 mod saying;
