@@ -171,6 +171,10 @@ ending keeper = doing (cond (is_ended_at_once keeper.program) (Term ∷ []) []) 
 abbrev pub dying : Keeper → Step Keeper KeeperAct
 dying keeper = followed (ending keeper) settled
 
+-- all have saved
+abbrev pub completed : Keeper → Step Keeper KeeperAct
+completed keeper = settled (knows (opened keeper.program) keeper)
+
 -- What is done about a cue. A fatal Error, an unspelled frame and a header that states too much have the connection shut, and nothing
 -- is done to the program.
 abbrev pub heeded : Keeper → Cue → Step Keeper KeeperAct
@@ -178,7 +182,7 @@ heeded keeper Nothing = stays keeper
 heeded keeper (Registered id) = settled keeper
 heeded keeper (Save ask) = saved ask ask.stage keeper
 heeded keeper Cancelled = cancelled keeper
-heeded keeper Complete = settled (knows (opened keeper.program) keeper)
+heeded keeper Complete = completed keeper
 heeded keeper Die = dying keeper
 heeded keeper (Properties list) = stays keeper
 heeded keeper (Refused class) = dropping keeper

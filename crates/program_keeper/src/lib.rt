@@ -4,6 +4,7 @@
 
 mod acts;
 mod going;
+mod heeding;
 mod program;
 mod progress;
 mod saying;
