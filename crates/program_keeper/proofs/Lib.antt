@@ -1,2 +1,4 @@
 pub mod TalkLaws
 pub mod GoingLaws
+pub mod HeedLaws
+pub mod HearLaws

@@ -4,3 +4,4 @@ pub mod Programs
 pub mod Script
 pub mod Standing
 pub mod Doing
+pub mod Laws

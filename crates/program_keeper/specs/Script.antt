@@ -218,9 +218,13 @@ abbrev pub pings : Option ℕ → List KeeperAct
 pings None = []
 pings (Some number) = Ping number ∷ []
 
+-- the window that is to be pinged as so many milliseconds go by
+abbrev pub ping_of : ℕ → Keeper → Option ℕ
+ping_of elapsed keeper = cond (is_talking keeper) (ping_due keeper.program.talk keeper.program.windows elapsed) None
+
 -- the window that is waited for is pinged each second
 abbrev pub pinging : ℕ → Keeper → Step Keeper KeeperAct
-pinging elapsed keeper = doing (pings (cond (is_talking keeper) (ping_due keeper.program.talk keeper.program.windows elapsed) None)) keeper
+pinging elapsed keeper = doing (pings (ping_of elapsed keeper)) keeper
 
 -- a program whose time to end is over is ended
 abbrev pub passing : ℕ → Bool → Keeper → Step Keeper KeeperAct

@@ -5,12 +5,15 @@
 mod acts;
 mod going;
 mod heeding;
+mod keeper;
 mod program;
 mod progress;
 mod saying;
+mod taking;
 mod talk;
 mod windows;
 
 pub use acts::{KeeperAct, KeeperActs, KeeperFault};
+pub use keeper::ProgramKeeper;
 pub use talk::{Move, UserTalk};
 pub use windows::{Window, WindowKind, WindowList, WindowNumbers};
