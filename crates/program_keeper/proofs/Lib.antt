@@ -2,3 +2,5 @@ pub mod TalkLaws
 pub mod GoingLaws
 pub mod HeedLaws
 pub mod HearLaws
+pub mod DueLaws
+pub mod AnswerLaws

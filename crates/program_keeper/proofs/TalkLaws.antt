@@ -121,3 +121,18 @@ moved_by_target windows talk found window move is some moved = subst (λ (m : Mo
 pub moved_by_none : {E : Type 0} (windows : List Window) (talk : UserTalk) (found standing : Option Window) (result : Result Move E) → found ≡ target talk windows → found ≡ None → standing ≡ dialog talk windows → standing ≡ None → IfOk result (λ one. one ≡ (asking (next_main windows None windows) windows talk).move) → IfOk result (λ one. MayMove talk windows one)
 moved_by_none windows talk found standing (Ok move) is none no_dialog not_there moved = subst (λ (m : Move). MayMove talk windows m) (sym moved) (none_stands windows talk (sym is ∙ none) (sym no_dialog ∙ not_there) (next_main windows None windows) refl)
 moved_by_none windows talk found standing (Err e) is none no_dialog not_there moved = tt
+
+shown_any : (windows : List Window) (talk at : UserTalk) (there : Bool) (number : ℕ) → is_front number at.front ≡ there → MayMove talk windows (showing number at).move
+shown_any windows talk at true number front = rw front tt
+shown_any windows talk at false number front = rw front tt
+
+-- the talk goes on by moves that may be made
+pub may_turn : (windows : List Window) (talk : UserTalk) → MayMove talk windows (turn_taken windows talk).move
+may_turn windows talk = by_standing (dialog talk windows) refl
+  where
+    by_asked : dialog talk windows ≡ None → (found : Option Window) → target talk windows ≡ found → MayMove talk windows (by_target found windows talk).move
+    by_asked none (Some window) e = awaited windows talk window e (talk.seen || has_new_title talk.asked window) (was_touched talk.asked window) refl refl
+    by_asked none None e = none_stands windows talk e none (next_main windows None windows) refl
+    by_standing : (found : Option Window) → dialog talk windows ≡ found → MayMove talk windows (by_dialog found windows talk).move
+    by_standing (Some window) e = shown_any windows talk (record talk { seen = true }) (is_front window.number talk.front) window.number refl
+    by_standing None e = by_asked e (target talk windows) refl

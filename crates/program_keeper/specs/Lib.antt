@@ -5,3 +5,4 @@ pub mod Script
 pub mod Standing
 pub mod Doing
 pub mod Laws
+pub mod Due

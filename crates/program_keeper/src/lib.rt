@@ -6,6 +6,7 @@ mod acts;
 mod going;
 mod heeding;
 mod keeper;
+mod laws;
 mod program;
 mod progress;
 mod saying;
@@ -15,5 +16,8 @@ mod windows;
 
 pub use acts::{KeeperAct, KeeperActs, KeeperFault};
 pub use keeper::ProgramKeeper;
+pub use laws::{
+    acts_are_due, pieces_make_no_difference, saves_are_answered, talks_end_rightly,
+};
 pub use talk::{Move, UserTalk};
 pub use windows::{Window, WindowKind, WindowList, WindowNumbers};
