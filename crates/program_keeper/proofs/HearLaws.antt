@@ -69,4 +69,3 @@ said step acts run old new stops is_run gave stands same = record {
     holds : (b : Bool) → is_listening old.keeper.talk.place ≡ b → is_listening new.keeper.talk.place ≡ true → old.splitter ≡ run.standing
     holds true listens still = is_run.feeds listens
     holds false deaf still = absurd (false≢true (sym (stops old.keeper deaf) ∙ (ap (λ (k : Keeper). is_listening k.talk.place) (sym stands) ∙ still)))
-

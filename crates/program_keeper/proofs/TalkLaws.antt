@@ -41,6 +41,7 @@ found_main all found (here ∷ left) window e = by_kind (is_main here.kind) refl
     was_found : (b : Bool) → is_main here.kind ≡ b → cond b (Some (sooner all found here)) found ≡ Some window → (found ≡ Some window) ⊎ is_there window (here ∷ left)
     was_found true kind same = elim (found_sooner all found here window same) [ inl before ↦ inl before | inr now ↦ inr (found_here true here window left kind refl now) ]
     was_found false kind same = inl same
+
     by_kind : (b : Bool) → is_main here.kind ≡ b → (cond (is_main here.kind) (Some (sooner all found here)) found ≡ Some window) ⊎ is_there window left → (found ≡ Some window) ⊎ is_there window (here ∷ left)
     by_kind b kind (inl same) = was_found (is_main here.kind) refl same
     by_kind b kind (inr there) = inr (found_below here window left there)
@@ -133,6 +134,7 @@ may_turn windows talk = by_standing (dialog talk windows) refl
     by_asked : dialog talk windows ≡ None → (found : Option Window) → target talk windows ≡ found → MayMove talk windows (by_target found windows talk).move
     by_asked none (Some window) e = awaited windows talk window e (talk.seen || has_new_title talk.asked window) (was_touched talk.asked window) refl refl
     by_asked none None e = none_stands windows talk e none (next_main windows None windows) refl
+
     by_standing : (found : Option Window) → dialog talk windows ≡ found → MayMove talk windows (by_dialog found windows talk).move
     by_standing (Some window) e = shown_any windows talk (record talk { seen = true }) (is_front window.number talk.front) window.number refl
     by_standing None e = by_asked e (target talk windows) refl

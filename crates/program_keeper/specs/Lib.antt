@@ -6,3 +6,4 @@ pub mod Standing
 pub mod Doing
 pub mod Laws
 pub mod Due
+pub mod Examples

@@ -36,9 +36,7 @@ impl Progress {
         ensures splitter { self.new.core.splitter ≡ self.old.core.splitter }
     {
         let set = self.set.copy()?;
-        let said = self
-            .core
-            .answer(self.alloc, ask, SaveAnswer { set, step })?;
+        let said = self.core.answer(self.alloc, ask, SaveAnswer { set, step })?;
         say_all(self.alloc, said.as_slice(), acts)
     }
 

@@ -1,4 +1,5 @@
 ghost use Rattle.program_keeper.specs.Due.{ActsAreDue, SavesAreAnswered, TalksEndRightly};
+ghost use Rattle.program_keeper.specs.Examples.{WorkedRows};
 ghost use Rattle.program_keeper.specs.Laws.{PiecesMakeNoDifference};
 
 /// Does nothing: its contract is a law. What a keeper does about a stream doesn't depend on the pieces
@@ -24,4 +25,10 @@ pub fn talks_end_rightly()
 /// waits for it: it is answered, or the client waits for the token, or has it.
 pub fn saves_are_answered()
     ensures { SavesAreAnswered }
+{}
+
+/// Does nothing: its contract are worked rows, a place of a keeper with what comes to it, and what it
+/// does then.
+pub fn rows_are_worked()
+    ensures { WorkedRows }
 {}

@@ -206,12 +206,7 @@ impl UserTalk {
     }
 
     /// Asks a window for the first time.
-    fn ask(
-        &mut self,
-        alloc: Global,
-        windows: &[Window],
-        window: Window,
-    ) -> Result<Move, NoMemory>
+    fn ask(&mut self, alloc: Global, windows: &[Window], window: Window) -> Result<Move, NoMemory>
         ensures asked { IfOk result (λ one. one ≡ Move.Close window.number) }
         ensures talk { OnOk result (self.new ≡ asked_first window windows.now) }
     {
