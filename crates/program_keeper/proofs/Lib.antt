@@ -4,3 +4,5 @@ pub mod HeedLaws
 pub mod HearLaws
 pub mod DueLaws
 pub mod AnswerLaws
+pub mod StartLaws
+pub mod CloseLaws

@@ -1,5 +1,5 @@
 -- When a keeper does what it does.
-use Rattle.std.specs.Prelude.{◌≡◌, ℕ, ◌⊎◌, IsTrue, Bool, true, false, not, ◌||◌, List}
+use Rattle.std.specs.Prelude.{◌≡◌, ℕ, ◌⊎◌, IsTrue, is_some, Bool, true, false, not, ◌||◌, List}
 use Rattle.std.specs.List.{AllByRecursion, list_any}
 use Rattle.client_machine.specs.Phases.{is_owing}
 use Rattle.client_machine.specs.declared.phase.ClientPhase.{ClientPhase}
@@ -19,6 +19,7 @@ use Rattle.program_keeper.specs.declared.acts.KeeperAct.{KeeperAct}
 use Rattle.program_keeper.specs.declared.acts.KeeperAct.TheVariants.{Close, Term, Start}
 use Rattle.program_keeper.specs.declared.program.Life.{Life}
 use Rattle.program_keeper.specs.declared.program.Life.TheVariants.{Here, Starting, Gone}
+use Rattle.program_keeper.specs.declared.program.Outcome.TheVariants.{Open}
 use Rattle.program_keeper.specs.declared.talk.Move.{Move}
 use Rattle.program_keeper.specs.declared.talk.Move.TheVariants.{Agree, Wait}
 use Rattle.program_keeper.specs.declared.windows.Window.{Window}
@@ -124,3 +125,11 @@ MayCome came keeper = IsTrue (is_answered (phase_of keeper))
 -- Behind all that is done about what came, no SaveYourself waits for the keeper.
 abbrev pub SavesAreAnswered : Type 0
 SavesAreAnswered = (came : Came) (keeper : Keeper) → MayCome came keeper → IsTrue (is_answered (phase_of (happened came keeper).next))
+
+-- A program counts as closed for a logout only by the talk of that logout, in which a window was asked to close: a new save and a
+-- cancelled one forget it. So it is started once at most for each.
+pub record StartsAreEarned : Type 0 where
+  pub begun : (ask : SaveAsk) (keeper : Keeper) → (happened (Cued (Save (record ask { stage = First }))) keeper).next.program.outcome ≡ Open
+  pub spent : (keeper : Keeper) → is_talking (noted (Cued Cancelled) keeper) ≡ false → (happened (Cued Cancelled) keeper).next.program.outcome ≡ Open
+  pub earned : (came : Came) (keeper : Keeper) → IsTrue (is_closed (happened came keeper).next.program.outcome)
+      → IsTrue (is_closed keeper.program.outcome) ⊎ (IsTrue (is_talking (noted came keeper)) × IsTrue (is_some (happened came keeper).next.program.talk.asked))

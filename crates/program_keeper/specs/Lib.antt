@@ -7,3 +7,4 @@ pub mod Doing
 pub mod Laws
 pub mod Due
 pub mod Examples
+pub mod Closes

@@ -1,4 +1,5 @@
-ghost use Rattle.program_keeper.specs.Due.{ActsAreDue, SavesAreAnswered, TalksEndRightly};
+ghost use Rattle.program_keeper.specs.Closes.{ClosesAreFew};
+ghost use Rattle.program_keeper.specs.Due.{ActsAreDue, SavesAreAnswered, StartsAreEarned, TalksEndRightly};
 ghost use Rattle.program_keeper.specs.Examples.{WorkedRows};
 ghost use Rattle.program_keeper.specs.Laws.{PiecesMakeNoDifference};
 
@@ -31,4 +32,17 @@ pub fn saves_are_answered()
 /// does then.
 pub fn rows_are_worked()
     ensures { WorkedRows }
+{}
+
+/// Does nothing: its contract is a law. A program counts as closed for a logout only by the talk of that
+/// logout, in which a window was asked to close; a new save and a cancelled one forget it. So it is
+/// started once at most for each.
+pub fn starts_are_earned()
+    ensures { StartsAreEarned }
+{}
+
+/// Does nothing: its contract is a law. However a talk goes on, a window that stands at each of its turns
+/// is asked to close four times at most.
+pub fn closes_are_few()
+    ensures { ClosesAreFew }
 {}

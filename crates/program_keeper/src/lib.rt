@@ -16,6 +16,9 @@ mod windows;
 
 pub use acts::{KeeperAct, KeeperActs, KeeperFault};
 pub use keeper::ProgramKeeper;
-pub use laws::{acts_are_due, pieces_make_no_difference, saves_are_answered, talks_end_rightly};
+pub use laws::{
+    acts_are_due, closes_are_few, pieces_make_no_difference, rows_are_worked, saves_are_answered,
+    starts_are_earned, talks_end_rightly,
+};
 pub use talk::{Move, UserTalk};
 pub use windows::{Window, WindowKind, WindowList, WindowNumbers};

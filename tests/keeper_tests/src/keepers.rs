@@ -10,7 +10,8 @@ use ice_values::{Array8, Array8List, Property, PropertyList, put_word};
 use owned_lists::{NoMemory, Octets};
 use program_keeper::{
     KeeperAct, KeeperActs, KeeperFault, ProgramKeeper, Window, WindowKind, WindowList,
-    acts_are_due, pieces_make_no_difference, saves_are_answered, talks_end_rightly,
+    acts_are_due, closes_are_few, pieces_make_no_difference, rows_are_worked, saves_are_answered,
+    starts_are_earned, talks_end_rightly,
 };
 use std::alloc::{Alloc, Global};
 use std::test::Fail;
@@ -215,7 +216,10 @@ fn each_cell_of_the_table_is_done(rt: HostRuntime) -> Result<(), Fail> {
     pieces_make_no_difference();
     acts_are_due();
     talks_end_rightly();
+    closes_are_few();
+    starts_are_earned();
     saves_are_answered();
+    rows_are_worked();
     expect_rows(&rt, CELLS, steps_shown)
 }
 
