@@ -1,5 +1,5 @@
 -- Behind all that is done about what came, no SaveYourself waits for the keeper.
-use Rattle.std.proofs.Common.{◌≡◌, ℕ, Bool, true, false, not, ◌&&◌, ◌||◌, cond, List, [], ◌∷◌, Option, None, Some, refl, sym, ◌∙◌, ap, subst}
+use Rattle.std.proofs.Common.{◌≡◌, ℕ, Bool, true, false, ◌&&◌, ◌||◌, cond, List, [], refl, ◌∙◌, ap}
 use Rattle.std.proofs.lemmas.Bool.{and_parts, false≢true}
 use Rattle.ice_values.specs.declared.saves.Dialog.TheVariants.{Normal}
 use Rattle.ice_values.specs.declared.saves.SaveKind.{SaveKind}
@@ -12,24 +12,21 @@ use Rattle.client_machine.specs.Phases.{ClientState, is_interacting, is_owing}
 use Rattle.client_machine.specs.Saves.{allows, may_cancel}
 use Rattle.client_machine.specs.declared.phase.ClientPhase.{ClientPhase}
 use Rattle.client_machine.specs.declared.phase.ClientPhase.TheVariants.{Interacting, InteractingTwo, Owing, Saving, SavingTwo, WantsTwo}
-use Rattle.client_machine.specs.declared.requests.Request.TheVariants.{Close as AskClose, Done as AskDone, Interact as AskDialog, InteractDone as AskTalked}
+use Rattle.client_machine.specs.declared.requests.Request.TheVariants.{Close as AskClose, Done as AskDone, InteractDone as AskTalked}
 use Rattle.client_machine.specs.declared.saves.SaveAsk.{SaveAsk}
 use Rattle.client_machine.specs.declared.saves.Stage.{Stage}
 use Rattle.client_machine.specs.declared.saves.Stage.TheVariants.{First, Second, Talking, TalkingTwo}
-use Rattle.client_machine.specs.declared.saves.Step.{Step as SaveStep}
 use Rattle.client_machine.specs.declared.saves.Step.TheVariants.{Done, Interact}
 use Rattle.client_engine.specs.Answering.{after_answer, after_owed}
 use Rattle.client_engine.specs.Places.{on_client, phase_at}
 use Rattle.client_engine.specs.Speaking.{MayAnswer}
-use Rattle.client_engine.specs.declared.hearing.Cue.{Cue}
 use Rattle.client_engine.specs.declared.hearing.Cue.TheVariants.{Nothing, Registered, Save, Cancelled, Complete, Die, Properties, Refused, Malformed}
 use Rattle.client_engine.specs.declared.place.Place.{Place}
 use Rattle.client_engine.specs.declared.place.Place.TheVariants.{Opening, Speaking, Stopped}
-use Rattle.client_engine.specs.declared.place.Talk.{Talk}
-use Rattle.program_keeper.specs.Due.{Came, SavesAreAnswered, happened, is_answered, noted}
+use Rattle.program_keeper.specs.Due.{SavesAreAnswered, happened, is_answered, noted}
 use Rattle.program_keeper.specs.Due.Came.{Cued, Shown, HasEnded, HasFailed, Passed}
-use Rattle.program_keeper.specs.Programs.{agreed, begun, is_joined, is_leaving, talked}
-use Rattle.program_keeper.specs.Script.{Keeper, closing, ending, finishing, first_step, is_any, is_idle, is_talking, knows, leaving, moving, owing, passing, phase_of, pinging, requests, restarting, settled, talking}
+use Rattle.program_keeper.specs.Programs.{begun, is_joined, is_leaving, talked}
+use Rattle.program_keeper.specs.Script.{Keeper, closing, first_step, is_any, is_idle, is_talking, knows, moving, phase_of, requests, settled, talking}
 use Rattle.program_keeper.specs.Talking.{turn_taken}
 use Rattle.program_keeper.specs.declared.program.Life.{Life}
 use Rattle.program_keeper.specs.declared.program.Life.TheVariants.{Here, Starting, Gone}

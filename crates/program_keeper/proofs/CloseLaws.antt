@@ -5,10 +5,9 @@ use Rattle.std.specs.List.{AllByRecursion, list_any}
 use Rattle.std.proofs.lemmas.Bool.{and_parts, eqb-true, false≢true, ltb-true, or_from}
 use Rattle.program_keeper.specs.Closes.{ClosesAreFew, Moment, StandsAt, behind_moment, closes, closes_at, closes_by}
 use Rattle.program_keeper.specs.Closes.Moment.{Turns, Disturbs, Passes}
-use Rattle.program_keeper.specs.Talking.{Turn, asking, asked_again, awaiting, behind_answer, behind_nothing, behind_touch, by_dialog, by_target, dialog, has_new_title, is_front, showing, target, target_of, turn, turn_taken, was_touched}
+use Rattle.program_keeper.specs.Talking.{Turn, asking, asked_again, awaiting, behind_answer, behind_nothing, behind_touch, by_dialog, by_target, dialog, has_new_title, is_front, showing, target, target_of, turn, was_touched}
 use Rattle.program_keeper.specs.Windows.{is_main, is_target, next_main}
-use Rattle.program_keeper.specs.declared.talk.Move.{Move}
-use Rattle.program_keeper.specs.declared.talk.Move.TheVariants.{Agree, Refuse, Close, Show, Wait}
+use Rattle.program_keeper.specs.declared.talk.Move.TheVariants.{Close, Wait}
 use Rattle.program_keeper.specs.declared.talk.UserTalk.{UserTalk}
 use Rattle.program_keeper.specs.declared.windows.Window.{Window}
 

@@ -1,5 +1,5 @@
 -- Whatever comes to a keeper, it does only what is due.
-use Rattle.std.proofs.Common.{◌≡◌, ℕ, Bool, true, false, not, ◌&&◌, ◌||◌, cond, List, [], ◌∷◌, ◌++◌, map, Option, None, Some, Result, Ok, Err, refl, sym, ◌∙◌, ap, subst}
+use Rattle.std.proofs.Common.{◌≡◌, ℕ, Bool, true, false, not, ◌||◌, cond, List, [], ◌∷◌, ◌++◌, map, Option, None, Some, Result, Ok, Err, refl, subst}
 use Rattle.std.specs.List.{AllByRecursion}
 use Rattle.std.proofs.lemmas.Bool.{and_parts}
 use Rattle.ice_values.specs.declared.saves.SaveKind.{SaveKind}
@@ -14,16 +14,15 @@ use Rattle.client_machine.specs.declared.saves.Stage.TheVariants.{First, Second,
 use Rattle.client_machine.specs.declared.saves.Step.{Step as SaveStep}
 use Rattle.client_machine.specs.declared.saves.Step.TheVariants.{Done, Talked}
 use Rattle.client_engine.specs.Answering.{answer_messages, answered_at, owed_messages}
-use Rattle.client_engine.specs.declared.hearing.Cue.{Cue}
 use Rattle.client_engine.specs.declared.hearing.Cue.TheVariants.{Nothing, Registered, Save, Cancelled, Complete, Die, Properties, Refused, Malformed}
 use Rattle.protocol_messages.specs.declared.message.Message.{Message}
-use Rattle.program_keeper.specs.Due.{ActsAreDue, Came, IsDue, MayAsk, MayEnd, MayRestart, MayStart, Moves, TalksEndRightly, happened, noted, save_noted}
+use Rattle.program_keeper.specs.Due.{ActsAreDue, Came, IsDue, MayAsk, Moves, TalksEndRightly, happened, noted}
 use Rattle.program_keeper.specs.Due.Came.{Cued, Shown, HasEnded, HasFailed, Passed}
 use Rattle.program_keeper.specs.Programs.{agreed, has_main, is_closed, is_ended_at_once, is_gone, is_joined, is_leaving, is_open, is_over, is_restart, talked}
 use Rattle.program_keeper.specs.Script.{Keeper, answering, closing, finishing, first_step, is_idle, is_talking, knows, leaving, moving, owing, passing, phase_of, ping_of, pinging, pings, restarting, says_step, sends, sent, settled, talking}
 use Rattle.program_keeper.specs.Talking.{MayMove, turn_taken}
 use Rattle.program_keeper.specs.declared.acts.KeeperAct.{KeeperAct}
-use Rattle.program_keeper.specs.declared.acts.KeeperAct.TheVariants.{Send, Close, Show, Ping, Term, Start, Drop}
+use Rattle.program_keeper.specs.declared.acts.KeeperAct.TheVariants.{Term, Start, Drop}
 use Rattle.program_keeper.specs.declared.program.Life.{Life}
 use Rattle.program_keeper.specs.declared.program.Life.TheVariants.{Here, Starting, Gone}
 use Rattle.program_keeper.specs.declared.talk.Move.{Move}

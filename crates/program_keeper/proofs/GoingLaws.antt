@@ -1,15 +1,11 @@
 -- Things that are said and done one after another.
-use Rattle.std.proofs.Common.{◌≡◌, Bool, true, false, List, [], ◌∷◌, ◌++◌, Option, None, Some, Result, Ok, Err, cond, refl, sym, ◌∙◌, ap, subst, append_assoc, append-nil}
+use Rattle.std.proofs.Common.{◌≡◌, Bool, true, false, List, ◌++◌, Result, Ok, Err, cond, ◌∙◌, ap, subst, append_assoc}
 use Rattle.std.specs.Prelude.{OnOk}
 use Rattle.owned_lists.specs.declared.failures.NoMemory.{NoMemory}
-use Rattle.ice_values.specs.declared.numbers.Endian.TheVariants.{Lsb}
-use Rattle.xsmp_messages.specs.Messages.{IsTooLong as IsLongXsmp}
 use Rattle.client_machine.specs.Asking.{may_ask, requested}
-use Rattle.client_machine.specs.Phases.{ClientState}
 use Rattle.client_machine.specs.Saves.{step_request}
 use Rattle.client_machine.specs.declared.requests.AskRefusal.{AskRefusal}
 use Rattle.client_machine.specs.declared.requests.AskRefusal.TheVariants.{WrongPhase}
-use Rattle.client_machine.specs.declared.requests.Request.{Request}
 use Rattle.client_machine.specs.declared.saves.Step.{Step as SaveStep}
 use Rattle.client_engine.specs.Answering.{answered_at, as_message}
 use Rattle.client_engine.specs.Driving.{Step}

@@ -9,19 +9,18 @@ use Rattle.client_machine.specs.declared.requests.Request.TheVariants.{Close as 
 use Rattle.client_machine.specs.declared.saves.SaveAsk.{SaveAsk}
 use Rattle.client_machine.specs.declared.saves.Stage.{Stage}
 use Rattle.client_machine.specs.declared.saves.Stage.TheVariants.{First, Second, Talking, TalkingTwo}
-use Rattle.client_machine.specs.declared.saves.Step.{Step as SaveStep}
 use Rattle.client_machine.specs.declared.saves.Step.TheVariants.{Done, Talked}
 use Rattle.client_engine.specs.Answering.{after_answer, after_owed, changed, is_closing, may_ask_at, stopped}
 use Rattle.client_engine.specs.Driving.{StaysStopped}
 use Rattle.client_engine.specs.Keeping.{Composes}
-use Rattle.client_engine.specs.Places.{is_listening, phase_at}
+use Rattle.client_engine.specs.Places.{is_listening}
 use Rattle.client_engine.specs.declared.hearing.Cue.{Cue}
 use Rattle.client_engine.specs.declared.hearing.Cue.TheVariants.{Nothing, Registered, Save, Cancelled, Complete, Die, Properties, Refused, Malformed}
 use Rattle.client_engine.specs.declared.place.Talk.{Talk}
 use Rattle.client_engine.proofs.Driven.{still_at}
 use Rattle.program_keeper.specs.Doing.{Carries}
 use Rattle.program_keeper.specs.Programs.{agreed, begun, is_joined, is_leaving, opened, talked}
-use Rattle.program_keeper.specs.Script.{Keeper, answering, cancelled, closing, completed, dying, ended, ending, failed, finishing, first_step, heeded, is_idle, is_talking, knows, leaving, moving, owing, passing, phase_of, pinging, reacts, requests, restarting, saved, says_step, settled, shown, talk_of, talking, ticked}
+use Rattle.program_keeper.specs.Script.{Keeper, cancelled, closing, ending, finishing, first_step, heeded, is_idle, is_talking, knows, leaving, moving, owing, passing, phase_of, pinging, reacts, requests, restarting, saved, says_step, settled, talk_of, talking, ticked}
 use Rattle.program_keeper.specs.Talking.{turn_taken}
 use Rattle.program_keeper.specs.declared.acts.KeeperAct.{KeeperAct}
 use Rattle.program_keeper.specs.declared.program.Life.{Life}

@@ -1,5 +1,5 @@
 -- A program is started once at most for each logout.
-use Rattle.std.proofs.Common.{◌≡◌, ◌⊎◌, inl, inr, Bool, true, false, cond, refl, sym, ◌∙◌, ap, subst}
+use Rattle.std.proofs.Common.{◌≡◌, ◌⊎◌, inl, inr, Bool, true, false, cond, refl, sym, ◌∙◌, ap}
 use Rattle.std.proofs.lemmas.Bool.{false≢true}
 use Rattle.std.specs.Prelude.{is_some}
 use Rattle.client_machine.specs.declared.saves.SaveAsk.{SaveAsk}
@@ -10,12 +10,11 @@ use Rattle.ice_values.specs.declared.saves.SaveKind.{SaveKind}
 use Rattle.ice_values.specs.declared.saves.SaveStyle.{SaveStyle}
 use Rattle.program_keeper.specs.Due.{Came, StartsAreEarned, happened, noted}
 use Rattle.program_keeper.specs.Due.Came.{Cued, Shown, HasEnded, HasFailed, Passed}
-use Rattle.program_keeper.specs.Programs.{agreed, is_closed, is_joined, is_leaving, talked}
+use Rattle.program_keeper.specs.Programs.{is_closed, is_joined, is_leaving, talked}
 use Rattle.program_keeper.specs.Script.{Keeper, closing, is_idle, is_talking, knows, leaving, moving, settled, talking}
 use Rattle.program_keeper.specs.Talking.{turn_taken}
 use Rattle.program_keeper.specs.declared.program.Life.{Life}
 use Rattle.program_keeper.specs.declared.program.Life.TheVariants.{Here, Starting, Gone}
-use Rattle.program_keeper.specs.declared.program.Outcome.{Outcome}
 use Rattle.program_keeper.specs.declared.program.Outcome.TheVariants.{Open, Agreed, Closed}
 use Rattle.program_keeper.specs.declared.program.Program.{Program}
 use Rattle.program_keeper.specs.declared.talk.Move.{Move}

@@ -1,12 +1,11 @@
 -- What each move of a talk says of its windows.
-use Rattle.std.proofs.Common.{◌≡◌, ℕ, ◌<◌, ◌≤◌, ◌⊎◌, inl, inr, Bool, true, false, not, ◌&&◌, ◌||◌, ◌==◌, cond, List, [], ◌∷◌, Option, None, Some, Result, Ok, Err, refl, sym, ◌∙◌, ap, subst, arith}
+use Rattle.std.proofs.Common.{◌≡◌, ℕ, ◌<◌, ◌≤◌, ◌⊎◌, inl, inr, Bool, true, false, ◌&&◌, ◌||◌, ◌==◌, cond, List, [], ◌∷◌, Option, None, Some, Result, Ok, Err, refl, sym, ◌∙◌, ap, subst}
 use Rattle.std.specs.Prelude.{IfOk, IfSome, IsSomeAnd, find, nat_lt}
 use Rattle.std.specs.List.{list_any}
-use Rattle.std.proofs.lemmas.Bool.{and_from, and_parts, eqb-true, eq-eqb, false≢true, ltb-false, ltb-true, or_from, or_left, or_right}
+use Rattle.std.proofs.lemmas.Bool.{and_from, and_parts, eq-eqb, ltb-false, ltb-true, or_from, or_left, or_right}
 use Rattle.program_keeper.specs.Windows.{comes_first, is_main, is_target, next_main, sooner}
-use Rattle.program_keeper.specs.Talking.{MayAgree, MayClose, MayMove, MayRefuse, asking, awaiting, behind_answer, behind_nothing, behind_touch, by_dialog, by_target, dialog, has_new_title, is_front, showing, target, target_of, turn_taken, was_touched}
+use Rattle.program_keeper.specs.Talking.{MayClose, MayMove, MayRefuse, asking, awaiting, behind_answer, behind_nothing, behind_touch, by_dialog, by_target, dialog, has_new_title, is_front, showing, target, target_of, turn_taken, was_touched}
 use Rattle.program_keeper.specs.declared.talk.Move.{Move}
-use Rattle.program_keeper.specs.declared.talk.Move.TheVariants.{Agree, Refuse, Close, Show, Wait}
 use Rattle.program_keeper.specs.declared.talk.UserTalk.{UserTalk}
 use Rattle.program_keeper.specs.declared.windows.Window.{Window}
 

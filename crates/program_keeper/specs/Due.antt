@@ -6,11 +6,11 @@ use Rattle.client_machine.specs.declared.phase.ClientPhase.{ClientPhase}
 use Rattle.client_machine.specs.declared.phase.ClientPhase.TheVariants.{Saving, SavingTwo, WantsTwo, Owing}
 use Rattle.client_machine.specs.declared.saves.SaveAsk.{SaveAsk}
 use Rattle.client_machine.specs.declared.saves.Stage.{Stage}
-use Rattle.client_machine.specs.declared.saves.Stage.TheVariants.{First, Second, Talking, TalkingTwo}
+use Rattle.client_machine.specs.declared.saves.Stage.TheVariants.{First, Talking, TalkingTwo}
 use Rattle.client_engine.specs.Driving.{Step}
 use Rattle.client_engine.specs.Speaking.{HasPlace}
 use Rattle.client_engine.specs.declared.hearing.Cue.{Cue}
-use Rattle.client_engine.specs.declared.hearing.Cue.TheVariants.{Nothing, Registered, Save, Cancelled, Complete, Die, Properties, Refused, Malformed}
+use Rattle.client_engine.specs.declared.hearing.Cue.TheVariants.{Save, Cancelled, Complete, Die}
 use Rattle.program_keeper.specs.Programs.{begun, has_main, is_closed, is_gone, is_open, is_over, noted_end, noted_failure, noted_windows, opened}
 use Rattle.program_keeper.specs.Script.{Keeper, ended, ending, failed, heeded, is_talking, knows, moving, owing, passing, phase_of, pinging, restarting, settled, shown, ticked}
 use Rattle.program_keeper.specs.Talking.{MayMove}

@@ -4,11 +4,10 @@ use Rattle.ice_setup.specs.declared.opener.Joined.{Joined as HasJoined}
 use Rattle.ice_values.specs.declared.property.Property.{Property}
 use Rattle.ice_values.specs.declared.saves.Dialog.TheVariants.{Normal}
 use Rattle.ice_values.specs.declared.saves.SaveKind.TheVariants.{Both}
-use Rattle.ice_values.specs.declared.saves.SaveStyle.{SaveStyle}
 use Rattle.ice_values.specs.declared.saves.SaveStyle.TheVariants.{Any, Nothing as NoDialog}
 use Rattle.xsmp_messages.specs.declared.message.XsmpMessage.TheVariants.{InteractDone, InteractRequest, SaveYourselfDone}
 use Rattle.client_machine.specs.declared.phase.ClientPhase.{ClientPhase}
-use Rattle.client_machine.specs.declared.phase.ClientPhase.TheVariants.{Done, Idle, Interacting, Owing, Saving}
+use Rattle.client_machine.specs.declared.phase.ClientPhase.TheVariants.{Idle, Interacting, Owing, Saving}
 use Rattle.client_machine.specs.declared.saves.SaveAsk.{SaveAsk}
 use Rattle.client_machine.specs.declared.saves.Stage.{Stage}
 use Rattle.client_machine.specs.declared.saves.Stage.TheVariants.{First, Talking}
@@ -22,15 +21,15 @@ use Rattle.program_keeper.specs.Due.{Came, happened}
 use Rattle.program_keeper.specs.Due.Came.{Cued, Shown, HasEnded, HasFailed, Passed}
 use Rattle.program_keeper.specs.Programs.{fresh}
 use Rattle.program_keeper.specs.Script.{Keeper, sends}
-use Rattle.program_keeper.specs.Talking.{Turn, asked_first, start, turn_taken}
+use Rattle.program_keeper.specs.Talking.{asked_first, start, turn_taken}
 use Rattle.program_keeper.specs.declared.acts.KeeperAct.{KeeperAct}
-use Rattle.program_keeper.specs.declared.acts.KeeperAct.TheVariants.{Close, Drop, Ping, Show, Start, Term}
+use Rattle.program_keeper.specs.declared.acts.KeeperAct.TheVariants.{Close, Drop, Ping, Start, Term}
 use Rattle.program_keeper.specs.declared.program.Life.{Life}
 use Rattle.program_keeper.specs.declared.program.Life.TheVariants.{Here, Starting, Gone}
 use Rattle.program_keeper.specs.declared.program.Outcome.{Outcome}
 use Rattle.program_keeper.specs.declared.program.Outcome.TheVariants.{Open, Agreed, Closed}
 use Rattle.program_keeper.specs.declared.program.Program.{Program}
-use Rattle.program_keeper.specs.declared.program.Stay.TheVariants.{Joined, Ending, Ended}
+use Rattle.program_keeper.specs.declared.program.Stay.TheVariants.{Ending, Ended}
 use Rattle.program_keeper.specs.declared.talk.Move.{Move}
 use Rattle.program_keeper.specs.declared.talk.Move.TheVariants.{Agree, Refuse, Close as ToClose, Show as ToShow, Wait}
 use Rattle.program_keeper.specs.declared.talk.UserTalk.{UserTalk}

@@ -1,5 +1,5 @@
 -- The talk with a program's user: its windows are asked to close one by one, and what becomes of them tells what the user wants.
-use Rattle.std.specs.Prelude.{◌≡◌, ℕ, ◌<◌, ◌≤◌, ◌⊎◌, IsTrue, IfSome, IsSomeAnd, ◌+◌, ◌-◌, ◌/◌, ◌^◌, min, Bool, true, false, not, ◌&&◌, ◌||◌, ◌==◌, nat_lt, cond, is_some, is_none, List, [], ◌∷◌, map, find, Option, None, Some, if◌then◌else◌}
+use Rattle.std.specs.Prelude.{◌≡◌, ℕ, ◌<◌, ◌≤◌, ◌⊎◌, IsTrue, IfSome, IsSomeAnd, ◌+◌, ◌-◌, ◌/◌, ◌^◌, min, Bool, true, false, not, ◌&&◌, ◌||◌, ◌==◌, nat_lt, cond, is_some, is_none, List, [], map, find, Option, None, Some, if◌then◌else◌}
 use Rattle.std.specs.List.{list_any}
 use Rattle.program_keeper.specs.Windows.{is_aux, is_main, is_target, next_main, number_of}
 use Rattle.program_keeper.specs.declared.talk.Move.{Move}

@@ -1,4 +1,4 @@
-use Rattle.std.proofs.Common.{◌≡◌, Ok, Result, sym, ◌∙◌, ap}
+use Rattle.std.proofs.Common.{sym, ◌∙◌, ap}
 use Rattle.client_engine.specs.Answering.{answered_at}
 use Rattle.client_machine.specs.declared.requests.Request.{Request}
 use Rattle.program_keeper.proofs.GoingLaws.{short_said}
