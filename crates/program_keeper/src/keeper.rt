@@ -94,8 +94,8 @@ impl ProgramKeeper {
         }
     }
 
-    /// The program's windows are these now, where something of them has changed, and gives what is to
-    /// be done.
+    /// The program's windows are these now; gives what is to be done. It is told each time something of
+    /// them has changed, and then alone: the calm behind an answer of the user begins anew with it.
     pub fn show(&mut self, windows: WindowList) -> Result<KeeperActs, KeeperFault>
         ensures shown { IfOk result (λ acts. (run : Run Keeper) → IsRun run self.old →
             Gives acts (in_run (shown windows) run) self.new) }
@@ -115,7 +115,8 @@ impl ProgramKeeper {
         }
     }
 
-    /// The program has ended; gives what is to be done.
+    /// The program has ended; gives what is to be done. While one that was started again has no window
+    /// yet, this is taken for the end of the one before.
     pub fn end(&mut self) -> Result<KeeperActs, KeeperFault>
         ensures ended { IfOk result (λ acts. (run : Run Keeper) → IsRun run self.old →
             Gives acts (in_run ended run) self.new) }
@@ -155,8 +156,8 @@ impl ProgramKeeper {
         }
     }
 
-    /// So many milliseconds went by, in which the program answered its pings, or knows none; gives what
-    /// is to be done.
+    /// So many milliseconds went by since the last tick; gives what is to be done. The program answered
+    /// where no ping is open, as of one that knows none.
     pub fn tick(&mut self, elapsed: u32, answered: bool) -> Result<KeeperActs, KeeperFault>
         ensures ticked { IfOk result (λ acts. (run : Run Keeper) → IsRun run self.old →
             Gives acts (in_run (ticked elapsed answered) run) self.new) }
