@@ -1,0 +1,16 @@
+use Rattle.std.proofs.Common.{subst}
+use Rattle.client_engine.specs.Driving.{Run}
+use Rattle.program_keeper.specs.Doing.{stand_of}
+use Rattle.program_keeper.specs.Programs.{noted_end}
+use Rattle.program_keeper.specs.Script.{Keeper, in_run, knows, ended}
+use Rattle.program_keeper.specs.Standing.{Gives, IsRun, Stand}
+use Rattle.program_keeper.proofs.HearLaws.{said}
+use Rattle.program_keeper.proofs.HeedLaws.{stopped_settled}
+use Rattle.program_keeper.proofs.keeper.ProgramKeeper.end.Goals as goal
+
+pub returns-in-Ok-clause-ended : goal.returns-in-Ok-clause-ended
+returns-in-Ok-clause-ended c =
+    let before : Stand = stand_of c.self.inside.progress c.self.inside.starved in
+    let after : Stand = stand_of c.take_end.new.self c.self.inside.starved in
+    let P : Stand → Type 0 = λ o. (run : Run Keeper) → IsRun run o → Gives c.in-Ok.acts (in_run (ended) run) after in
+    subst P c.self.view_is (λ run is_run. said (ended) c.in-Ok.acts run before after (λ keeper. stopped_settled (knows (noted_end keeper.program) keeper)) is_run c.in-Ok.ensures.acts c.in-Ok.ensures.keeper c.take_end.ensures.splitter)
