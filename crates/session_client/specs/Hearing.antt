@@ -3,6 +3,7 @@ use Rattle.std.specs.Prelude.{◌≡◌, ℕ, Bool, false, true, List, [], lengt
 use Rattle.client_engine.specs.Cutting.{Cuts}
 use Rattle.client_engine.specs.Messages.{spelled}
 use Rattle.client_engine.specs.Places.{phase_at}
+use Rattle.client_engine.specs.Speaking.{HasPlace}
 use Rattle.client_engine.specs.declared.engine.Core.{Core}
 use Rattle.client_engine.specs.declared.engine.Taken.{Taken}
 use Rattle.client_engine.specs.declared.hearing.Cue.{Cue}
@@ -46,4 +47,6 @@ pub record Hears (before : Core) (left : List ℕ) (heard : Heard) : Type 0 wher
   pub after : Core
   pub cuts : Cuts before left taken after
   pub gives : GivesOf left taken heard
+  -- what is asked of the client has its place
+  pub asked : HasPlace heard.cue after.talk.place
   pub client : StandsAs after (tells_to_die heard.cue) heard.client

@@ -1,8 +1,7 @@
 -- What a client may ask for in a SaveYourselfRequest.
-use Rattle.std.specs.Prelude.{◌≡◌, ℕ, Bool, false, true, Option, None, Some, Ok}
+use Rattle.std.specs.Prelude.{Bool, false, true}
 use Rattle.xsmp_messages.specs.declared.message.XsmpMessage.{XsmpMessage}
 use Rattle.xsmp_messages.specs.declared.message.XsmpMessage.TheVariants.{SaveYourselfRequest}
-use Rattle.client_engine.specs.Answering.{answered_at}
 use Rattle.client_engine.specs.declared.place.Place.{Place}
 use Rattle.client_machine.specs.declared.requests.Request.TheVariants.{Save}
 use Rattle.protocol_messages.specs.declared.message.Message.TheVariants.{Xsmp}
