@@ -58,8 +58,8 @@ fn the_authority_file_is_found(rt: HostRuntime) -> Result<(), Fail> {
     let alloc = rt.alloc();
     let named = path_shown(alloc, Some(b"/a".as_slice()), Some(b"/h".as_slice()))?;
     assert!(rt; named.as_str() == "/a");
-    let home = path_shown(alloc, None, Some(b"/home/u".as_slice()))?;
-    assert!(rt; home.as_str() == "/home/u/.ICEauthority");
+    let home = path_shown(alloc, None, Some(b"/u".as_slice()))?;
+    assert!(rt; home.as_str() == "/u/.ICEauthority");
     let root = path_shown(alloc, None, Some(b"/".as_slice()))?;
     assert!(rt; root.as_str() == "/.ICEauthority");
     let none = path_shown(alloc, None, None)?;
