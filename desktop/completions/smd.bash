@@ -24,7 +24,7 @@ _smd_own() {
   set -- $1
   case ${1##*/}:${2-} in
     smd:) echo serve rehearse exercise store-check sessions restore login kept --help --version ;;
-    smd:serve) echo --socket --control --store --authority --patience --session --private --last-wait --quirks --record ;;
+    smd:serve) echo --socket --control --store --authority --patience --session --private --last-wait --quirks --record --kept ;;
     smd:store-check) echo --store --session --json ;;
     smd:sessions) echo --store ;;
     smd:restore) echo --store --from --session --all --beside --look ;;

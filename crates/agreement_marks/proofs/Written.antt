@@ -57,15 +57,15 @@ mere-onto (m ∷ moves) h e w = mere-onto moves (m ▷ h) e.1 (mere-keeps m h e.
 mere-wide : IsWide IsMere
 mere-wide = record { respawned = λ id command. refl; resigned = λ command. refl; closed = λ c. refl; printed = λ text. refl }
 
-mere-discarded : (r : Reading) (book : Book) → AllMere (discarded r.clients book)
-mere-discarded r book = every-issue IsMere book (issuable (standing r.clients) book.pending) (λ command. refl) refl
+mere-discarded : (r : Reading) (book : Book) → AllMere (discarded r book)
+mere-discarded r book = every-issue IsMere r.store.spared book (issuable (standing r.clients) book.pending) (λ command. refl) refl
 
 -- Rules
 
 written-agreement : (r : Reading) (round : Agreement) (h : History) → WritesBooks h → WritesBooks (onto h (agreed_rule true r round))
 written-agreement r round h w =
-    mere-onto (completed round.wanted.shutdown r.clients round (next_book r round) ++ discarded r.clients (next_book r round)) (Agreed ▷ Committed (next_book r round) ▷ h)
-    (every-append IsMere (completed round.wanted.shutdown r.clients round (next_book r round)) (discarded r.clients (next_book r round)) (every-completed IsMere round.wanted.shutdown r round (next_book r round) mere-wide (λ command. refl) (λ c m e. refl)) (mere-discarded r (next_book r round)))
+    mere-onto (completed round.wanted.shutdown r.clients round (next_book r round) ++ discarded r (next_book r round)) (Agreed ▷ Committed (next_book r round) ▷ h)
+    (every-append IsMere (completed round.wanted.shutdown r.clients round (next_book r round)) (discarded r (next_book r round)) (every-completed IsMere round.wanted.shutdown r round (next_book r round) mere-wide (λ command. refl) (λ c m e. refl)) (mere-discarded r (next_book r round)))
     (refl, w)
 
 written-over : (b : Bool) (h : History) → WritesBooks h → WritesBooks (onto h (over_rule b))
@@ -159,7 +159,7 @@ written-run [] h w = w
 written-run (event ∷ events) h w = written-run events (taken event h) (written-taken event h w)
 
 pub written-opened : (opening : Opening) → WritesBooks (opened opening)
-written-opened opening = mere-onto (opening_moves opening.book) (Opened opening) (every-opening IsMere opening.book (λ cause command. refl) (λ written. refl)) tt
+written-opened opening = mere-onto (opening_moves opening) (Opened opening) (every-opening IsMere opening (λ cause command. refl) (λ written. refl)) tt
 
 pub books-written : AgreementsAreWritten
 books-written opening events = written-run events (opened opening) (written-opened opening)

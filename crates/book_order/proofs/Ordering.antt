@@ -101,10 +101,10 @@ then_quiet book xs ys order silent =
 
 -- The discards behind a book
 
-order_issue : (book : Book) (commands : List Command) → InOrder book (written (issue book commands))
-order_issue book [] = tt
-order_issue book (command ∷ commands) =
-    quiet_then book (tried_each Discard (command ∷ commands)) (Committed (record book { pending = without_commands (command ∷ commands) book.pending }) ∷ []) (every-tried IsSilent Discard (command ∷ commands) (λ tried. tt))
+order_issue : (spared : List Command) (book : Book) (commands : List Command) → InOrder book (written (issue spared book commands))
+order_issue spared book [] = tt
+order_issue spared book (command ∷ commands) =
+    quiet_then book (tried_each Discard (without_commands spared (command ∷ commands))) (Committed (record book { pending = without_commands (command ∷ commands) book.pending }) ∷ []) (every-tried IsSilent Discard (without_commands spared (command ∷ commands)) (λ tried. tt))
     (record { name = refl; others = refl; order = λ rules next. order_without book (command ∷ commands) rules next }, tt)
 
 -- Rules
@@ -114,7 +114,7 @@ order_agreed true h round =
     let book : Book = next_book (reading h) round in
     let clients : Clients = (reading h).clients in (
       record { name = refl; others = refl; order = λ rules next. order_next h round rules next },
-      quiet_then book (completed round.wanted.shutdown clients round book) (discarded clients book) (every-completed IsSilent round.wanted.shutdown (reading h) round book silent_wide (λ command. tt) (λ c m e. tt)) (order_issue book (issuable (standing clients) book.pending)),
+      quiet_then book (completed round.wanted.shutdown clients round book) (discarded (reading h) book) (every-completed IsSilent round.wanted.shutdown (reading h) round book silent_wide (λ command. tt) (λ c m e. tt)) (order_issue (of.spared h) book (issuable (standing clients) book.pending)),
     )
 order_agreed false h round = over (deserted round) where
   over : (b : Bool) → InOrder (of.book h) (written (over_rule b))
@@ -191,7 +191,7 @@ order_forgotten : (r : Reading) (id : List ℕ) (entry : Entry) → InOrder r.st
 order_forgotten r id entry =
     let book : Book = book_forgetting r.store id in
     let last : Option Command = command_anyway (codes "ResignCommand") entry in
-    (record { name = refl; others = refl; order = λ rules next. order_forgetting r.store id rules next }, quiet_then book (resigned last) (discarded r.clients book) (every-resigned IsSilent last silent_wide) (order_issue book (issuable (standing r.clients) book.pending)))
+    (record { name = refl; others = refl; order = λ rules next. order_forgetting r.store id rules next }, quiet_then book (resigned last) (discarded r book) (every-resigned IsSilent last silent_wide) (order_issue r.store.spared book (issuable (standing r.clients) book.pending)))
 
 order_forget_one : (r : Reading) (id : List ℕ) (entry : Option Entry) → InOrder r.store.book (written (forget_one r id entry))
 order_forget_one r id None = tt
@@ -240,7 +240,7 @@ books_keep event h =
 pub openings_keep : (opening : Opening) → GoesOn (Opened opening) (opened opening)
 openings_keep opening =
     let book : Book = opening.book in
-    follows_onto (Opened opening) (Opened opening) (opening_moves book) (
+    follows_onto (Opened opening) (Opened opening) (opening_moves opening) (
       record { name = refl; others = refl; order = λ rules next. order_raised book rules next },
-      then_quiet (raised book) (issue (raised book) book.pending) (tried_each Restart (opening_restarts book.entries)) (order_issue (raised book) book.pending) (every-tried IsSilent Restart (opening_restarts book.entries) (λ command. tt)),
+      then_quiet (raised book) (issue opening.spared (raised book) book.pending) (tried_each Restart (opening_restarts book.entries)) (order_issue opening.spared (raised book) book.pending) (every-tried IsSilent Restart (opening_restarts book.entries) (λ command. tt)),
     ) (follows_itself (Opened opening))

@@ -195,8 +195,8 @@ agrees-all m (event ∷ events) a = agrees-all (event_step m event).next events 
 pub keep-from-the-first : BothEndsKeepFromTheFirstByte
 keep-from-the-first config book events c previous steps none may stand =
     let m : Machine = after_all (start config book) events in
-    let r : RunsTo (opened (waits_for config.patience book)) m.session = sessions-run config book events in
-    let of_run : IsOfRun m.session = record { began = waits_for config.patience book; events = r.events; is = r.is } in
+    let r : RunsTo (opened (waits_for config.patience config.spared book)) m.session = sessions-run config book events in
+    let of_run : IsOfRun m.session = record { began = waits_for config.patience config.spared book; events = r.events; is = r.is } in
     let same : HaveSame m.connections m.session = agrees-all (start config book) events (agrees-start config book) in
     kept c previous (after c steps (connected c previous m)) (each-step c previous (connected c previous m) steps (on-its-way c previous m (set-ups-begin c previous m of_run same none)) may stand) where
       on-its-way : (d : ℕ) (id : List ℕ) (n : Machine) → SetsUp d id (connected d id n) ⊎ IsLeft d (connected d id n) → IsOnItsWay d id (connected d id n)

@@ -24,6 +24,6 @@ pub pairs-run : PairsKeepToRuns
 pairs-run config book events c previous steps none may =
     let m : Machine = after_all (start config book) events in
     let b : BytePair = connected c previous m in
-    let to : RunsTo (opened (waits_for config.patience book)) (after c steps b).machine.session =
-    ran-both (opened (waits_for config.patience book)) m.session (after c steps b).machine.session (sessions-run config book events) (ran-both m.session b.machine.session (after c steps b).machine.session (ran-step m (Joined c)) (steps-run c steps b)) in
-    record { began = waits_for config.patience book; events = to.events; is = to.is }
+    let to : RunsTo (opened (waits_for config.patience config.spared book)) (after c steps b).machine.session =
+    ran-both (opened (waits_for config.patience config.spared book)) m.session (after c steps b).machine.session (sessions-run config book events) (ran-both m.session b.machine.session (after c steps b).machine.session (ran-step m (Joined c)) (steps-run c steps b)) in
+    record { began = waits_for config.patience config.spared book; events = to.events; is = to.is }

@@ -51,4 +51,4 @@ pub record RunsTo (h g : History) : Type 0 where
   pub is : g ≡ run h events
 
 abbrev pub SessionsRun : Type 0
-SessionsRun = (config : Config) (book : Book) (events : List Event) → RunsTo (opened (waits_for config.patience book)) (after_all (start config book) events).session
+SessionsRun = (config : Config) (book : Book) (events : List Event) → RunsTo (opened (waits_for config.patience config.spared book)) (after_all (start config book) events).session

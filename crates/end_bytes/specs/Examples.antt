@@ -22,7 +22,7 @@ abbrev pub worked_cookie : Cookie
 worked_cookie = record { 0 = codes "0123456789abcdef" }
 
 abbrev pub worked_config : Config
-worked_config = record { cookie = worked_cookie; patience = 0; session = default_name }
+worked_config = record { cookie = worked_cookie; patience = 0; session = default_name; spared = [] }
 
 -- after these steps of connection 3
 abbrev pub worked : List ByteStep → BytePair

@@ -185,7 +185,7 @@ answer-ordered d Cancel h g s =
     (answer-to d (Printed (codes "no shutdown") ∷ []) (Outside (Operator Cancel) ▷ h) (tt, tt))
 answer-ordered d (Forget id) h g s =
     answer-to d (forget (reading h) id) (Outside (Operator (Forget id)) ▷ h)
-    (every-forget (IsTo d) (reading h) id (to-wide d) tt (every-issue (IsTo d) (book_forgetting (reading h).store id) (issuable (standing (reading h).clients) (book_forgetting (reading h).store id).pending) (λ command. tt) tt))
+    (every-forget (IsTo d) (reading h) id (to-wide d) tt (every-issue (IsTo d) (reading h).store.spared (book_forgetting (reading h).store id) (issuable (standing (reading h).clients) (book_forgetting (reading h).store id).pending) (λ command. tt) tt))
 answer-ordered d order h g s = answer-to d (ordered (reading h) order) (Outside (Operator order) ▷ h) (every-ordered (IsTo d) (reading h) order (to-wide d) tt)
 
 -- the event comes from nobody else among those that may be answered

@@ -9,7 +9,7 @@ use Rattle.round_agreement.specs.declared.round.Member.{Member}
 use Rattle.round_agreement.specs.declared.wanted.Wanted.{Wanted}
 use Rattle.round_agreement.specs.Agreement.{Agreement, agreed, all_done, conns_of, deserted, is_done, two_ready, wants_two}
 use Rattle.interact_queue.specs.Queue.{is_in, next_holder}
-use Rattle.discard_ledger.specs.Discards.{issuable}
+use Rattle.discard_ledger.specs.Discards.{issuable, without_commands}
 use Rattle.xsmp_messages.specs.declared.message.XsmpMessage.{XsmpMessage}
 use Rattle.xsmp_messages.specs.declared.message.XsmpMessage.TheVariants.{Die, SaveComplete, SaveYourselfPhase2}
 use Rattle.session_model.specs.declared.phase.Phase.{Phase}
@@ -65,10 +65,10 @@ go-closed : (conns : List ℕ) (h : History) → AllGo (map Closed conns) h
 go-closed [] h = tt
 go-closed (c ∷ conns) h = (record { comes = tt; needs = tt }, go-closed conns (Closed c ▷ h))
 
-pub go-issue : (book : Book) (commands : List Command) (h : History) → AllGo (issue book commands) h
-go-issue book [] h = tt
-go-issue book (c ∷ commands) h =
-    go-append (tried_each Discard (c ∷ commands)) _ h (go-tried Discard (c ∷ commands) h) (record { comes = tt; needs = tt }, tt)
+pub go-issue : (spared : List Command) (book : Book) (commands : List Command) (h : History) → AllGo (issue spared book commands) h
+go-issue spared book [] h = tt
+go-issue spared book (c ∷ commands) h =
+    go-append (tried_each Discard (without_commands spared (c ∷ commands))) _ h (go-tried Discard (without_commands spared (c ∷ commands)) h) (record { comes = tt; needs = tt }, tt)
 
 -- The same message to each
 
@@ -184,13 +184,13 @@ go-completed false book h round k e f g s =
     (go-each SaveComplete (of.members h) (closing book h) s.once_members f (λ x y. tt))
 
 go-agreement : (book : Book) (h : History) (round : Agreement) → conns_of round.members ≡ of.members h → is_some (of.running h) ≡ true → ((c : ℕ) → is_in c (of.members h) ≡ true → may_complete (of.phase_of c h) ≡ true) → Good h → Steady h
-    → AllGo (agreement_with (reading h).clients round book) h
+    → AllGo (agreement_with (reading h) round book) h
 go-agreement book h round k e f g s = (
   record { comes = tt; needs = tt },
   (
     record { comes = tt; needs = tt },
-    go-append (completed round.wanted.shutdown (reading h).clients round book) (discarded (reading h).clients book) (closing book h)
-        (go-completed round.wanted.shutdown book h round k e f g s) (go-issue book (issuable (standing (reading h).clients) book.pending) _),
+    go-append (completed round.wanted.shutdown (reading h).clients round book) (discarded (reading h) book) (closing book h)
+        (go-completed round.wanted.shutdown book h round k e f g s) (go-issue (reading h).store.spared book (issuable (standing (reading h).clients) book.pending) _),
   ),
 )
 

@@ -79,10 +79,10 @@ stood-taken event h s = record { good = good-taken event h s.good; steady = stea
 stood-opened : (opening : Opening) → Stood (opened opening)
 stood-opened opening = record {
   good = good-opened opening;
-  steady = steady-onto (opening_moves opening.book) (Opened opening)
-      (go-need (opening_moves opening.book) (Opened opening) (
+  steady = steady-onto (opening_moves opening) (Opened opening)
+      (go-need (opening_moves opening) (Opened opening) (
         record { comes = tt; needs = tt },
-        go-append (issue (raised opening.book) opening.book.pending) (tried_each Restart (opening_restarts opening.book.entries)) _ (go-issue (raised opening.book) opening.book.pending _) (go-tried Restart (opening_restarts opening.book.entries) _),
+        go-append (issue opening.spared (raised opening.book) opening.book.pending) (tried_each Restart (opening_restarts opening.book.entries)) _ (go-issue opening.spared (raised opening.book) opening.book.pending _) (go-tried Restart (opening_restarts opening.book.entries) _),
       ))
       (steady-opened opening);
 }

@@ -1,3 +1,4 @@
 pub mod Shelves
 pub mod Names
+pub mod Spared
 pub mod Laws

@@ -1,30 +1,36 @@
 -- The laws of a login.
-use Rattle.std.proofs.Common.{◌≡◌, ◌≢◌, ℕ, ◌+◌, ◌*◌, ◌≤◌, ◌==◌, Bool, true, false, cond, not, ◌&&◌, ◌||◌, List, [], ◌∷◌, ◌++◌, filter, take, refl, sym, ap, ◌∙◌, subst, arith}
-use Rattle.std.specs.Prelude.{nat_lt, length}
-use Rattle.std.specs.List.{Contains}
+use Rattle.std.proofs.Common.{◌≡◌, ◌≢◌, ℕ, ◌+◌, ◌*◌, ◌≤◌, ◌==◌, Bool, true, false, cond, not, ◌&&◌, ◌||◌, List, [], ◌∷◌, ◌++◌, filter, take, refl, sym, ap, ◌∙◌, subst, arith, inl}
+use Rattle.std.specs.Prelude.{nat_lt, length, ◌⊎◌}
+use Rattle.std.specs.List.{AllByRecursion, Contains}
 use Rattle.std.specs.Cmp.Lexicographic.{pointwise}
 use Rattle.std.proofs.lemmas.Bool.{ltb-false, ltb-true}
 use Rattle.std.proofs.lemmas.Bool.Decides.{nat_tests}
-use Rattle.checkpoint_records.specs.Books.{choose}
+use Rattle.owned_lists.specs.declared.commands.Command.{Command}
+use Rattle.checkpoint_records.specs.Books.{choose, discards, entries_in, names, sessions}
 use Rattle.checkpoint_records.specs.Rules.{KeepsRules}
 use Rattle.checkpoint_records.specs.declared.records.Book.{Book}
 use Rattle.checkpoint_records.specs.declared.records.Entry.{Entry}
 use Rattle.checkpoint_changes.specs.Plain.{equal_entry}
-use Rattle.session_return.specs.Returns.{put_back}
+use Rattle.checkpoint_records.proofs.DistinctLaws.{all_turned}
+use Rattle.discard_ledger.specs.Discards.{is_among}
+use Rattle.session_return.specs.Returns.{put_back, sessions_back}
+use Rattle.session_return.proofs.Sifted.{all_left}
 use Rattle.session_return.specs.declared.returns.Which.{Which}
 use Rattle.session_return.specs.declared.returns.Which.TheVariants.{One, All}
 use Rattle.session_return.proofs.Beginnings.{anew_empty, anew_others}
 use Rattle.session_return.proofs.Kept.{never_below, others_stay as others_of_return, same_again}
 use Rattle.kept_books.specs.Shelves.{differs, entries_at, kept_again, left_beside, newly_kept, not_of, top_epoch, top_number}
 use Rattle.kept_books.specs.declared.shelves.Kept.{Kept}
+use Rattle.kept_books.specs.Spared.{kept_discards}
 use Rattle.kept_books.proofs.Keeping.{epoch_kept, own_name}
 use Rattle.login_plan.specs.Logins.{is_behind, is_loss, is_lost, must_ask, offered, starts}
-use Rattle.login_plan.specs.Laws.{store_by, with_one_more}
+use Rattle.login_plan.specs.Laws.{HaveTheSame, store_by, with_one_more}
 use Rattle.login_plan.specs.Plans.{begun, brought_back, decided, first_offered, numbered, raised, shelf_behind, store_behind, which_back}
 use Rattle.login_plan.specs.declared.decisions.Choice.{Choice}
 use Rattle.login_plan.specs.declared.decisions.Choice.TheVariants.{Unasked, Stay, Nobody, Back, Anew}
 use Rattle.login_plan.specs.declared.decisions.Decision.{Decision}
 use Rattle.login_plan.specs.declared.decisions.Decision.TheVariants.{Asks, Leaves, Stays, Restores, Unknown, Begins}
+use Rattle.login_plan.proofs.Owed.{added_unnamed, goes_due, own_there}
 use Rattle.login_plan.proofs.Ruled.{above, raised_rules}
 
 -- ---- epochs
@@ -211,8 +217,14 @@ found_beside number name book shelf kept e = by ((newly_kept name book shelf).nu
     by true is = absurd (let same : top_number shelf + 1 ≡ number = grind (arith, nat_tests) in omega (arith, number_below number shelf kept e))
     by false is = e
 
-brought_by : (number : ℕ) (name : List ℕ) (shelf : List Kept) (book : Book) (kept : Kept) → numbered number shelf ≡ Restores kept → top_epoch shelf ≤ book.epoch → store_by number name shelf book ≡ put_back (One name) kept.book book
-brought_by number name shelf book kept found below = ap (λ (d : Decision). store_behind d name shelf book) found ∙ settled name shelf book kept below
+brought_by : (number : ℕ) (name : List ℕ) (shelf : List Kept) (book : Book) (kept : Kept) → numbered number shelf ≡ Restores kept → top_epoch shelf ≤ book.epoch
+    → HaveTheSame (store_by number name shelf book) (put_back (One name) kept.book book)
+brought_by number name shelf book kept found below =
+    ap (λ (d : Decision). record (store_behind d name shelf book) { pending = [] }) found ∙ ap (λ (b : Book). record b { pending = [] }) (settled name shelf book kept below)
+
+-- what comes back over a book doesn't depend on what is pending there
+over_other : (name : List ℕ) (kept one other : Book) → HaveTheSame one other → HaveTheSame (put_back (One name) kept one) (put_back (One name) kept other)
+over_other name kept one other same = ap (λ (b : Book). record (put_back (One name) kept b) { pending = [] }) same
 
 module _ (number : ℕ) (name : List ℕ) (shelf : List Kept) (present : Book) (kept : Kept) (found : numbered number shelf ≡ Restores kept) (k : KeepsRules kept.book) (p : KeepsRules present) (below : top_epoch shelf ≤ present.epoch) where
   abbrev one_more : List Kept
@@ -221,8 +233,14 @@ module _ (number : ℕ) (name : List ℕ) (shelf : List Kept) (present : Book) (
   abbrev result : Book
   result = put_back (One name) kept.book present
 
-  is_result : store_by number name shelf present ≡ result
+  abbrev done : Book
+  done = store_by number name shelf present
+
+  is_result : HaveTheSame done result
   is_result = brought_by number name shelf present kept found below
+
+  same_epoch : done.epoch ≡ result.epoch
+  same_epoch = ap (λ (b : Book). b.epoch) is_result
 
   result_above : present.epoch ≤ result.epoch
   result_above = (never_below present.epoch kept.book.epoch).0
@@ -230,16 +248,47 @@ module _ (number : ℕ) (name : List ℕ) (shelf : List Kept) (present : Book) (
   more_found : numbered number one_more ≡ Restores kept
   more_found = found_beside number name present shelf kept found
 
-  over_result : (all : List Kept) → numbered number all ≡ Restores kept → top_epoch all ≤ result.epoch → store_by number name all result ≡ result
-  over_result all there up = brought_by number name all result kept there up ∙ same_again (One name) kept.book present k p
+  over_result : (all : List Kept) → numbered number all ≡ Restores kept → top_epoch all ≤ done.epoch → HaveTheSame (store_by number name all done) done
+  over_result all there up =
+      brought_by number name all done kept there up ∙ over_other name kept.book done result is_result ∙ ap (λ (b : Book). record b { pending = [] }) (same_again (One name) kept.book present k p) ∙ sym is_result
 
-  pub first_step : store_by number name one_more present ≡ store_by number name shelf present
+  pub first_step : HaveTheSame (store_by number name one_more present) done
   first_step = brought_by number name one_more present kept more_found (omega (arith, below)) ∙ sym is_result
 
-  pub second_step : store_by number name one_more (store_by number name shelf present) ≡ store_by number name shelf present
-  second_step = subst (λ (book : Book). store_by number name one_more book ≡ book) (sym is_result) (over_result one_more more_found (omega (arith, below, result_above)))
+  pub second_step : HaveTheSame (store_by number name one_more done) done
+  second_step = over_result one_more more_found (omega (arith, below, result_above, same_epoch))
 
-  pub third_step : store_by number name (with_one_more name (store_by number name shelf present) one_more) (store_by number name shelf present) ≡ store_by number name shelf present
+  pub third_step : HaveTheSame (store_by number name (with_one_more name (brought_back name shelf present kept) one_more) done) done
   third_step =
-      subst (λ (book : Book). store_by number name (with_one_more name book one_more) book ≡ book) (sym is_result)
-      (over_result (with_one_more name result one_more) (found_beside number name result one_more kept more_found) (omega (arith, below, result_above)))
+      over_result (with_one_more name (brought_back name shelf present kept) one_more) (found_beside number name (brought_back name shelf present kept) one_more kept more_found)
+      (omega (arith, below, result_above, same_epoch, ap (λ (b : Book). b.epoch) (settled name shelf present kept below)))
+
+-- ---- what is due
+
+pub goes : (decision : Decision) (name : List ℕ) (shelf : List Kept) (present : Book) (command : Command) → is_among command (kept_discards shelf) ≡ true
+    → is_among command (kept_discards (shelf_behind decision name shelf present)) ≡ false → names (store_behind decision name shelf present) command ≡ false
+    → (is_among command (store_behind decision name shelf present).pending ≡ true) ⊎ (length (store_behind decision name shelf present).pending ≡ 320)
+goes Asks name shelf present command was left named = absurd (let t : true ≡ false = sym was ∙ left in cc)
+goes Leaves name shelf present command was left named = absurd (let t : true ≡ false = sym was ∙ left in cc)
+goes Stays name shelf present command was left named = goes_due shelf (shelf_behind Stays name shelf present) (raised shelf present) command was left named
+goes (Restores kept) name shelf present command was left named = goes_due shelf (shelf_behind (Restores kept) name shelf present) (brought_back name shelf present kept) command was left named
+goes Unknown name shelf present command was left named = absurd (let t : true ≡ false = sym was ∙ left in cc)
+goes Begins name shelf present command was left named = goes_due shelf (shelf_behind Begins name shelf present) (begun name shelf present) command was left named
+
+-- it was pending, or is named by nobody
+abbrev IsOwed : Decision → List ℕ → List Kept → Book → Command → Type 0
+IsOwed decision name shelf present command =
+    (is_among command present.pending ≡ true) ⊎ ((is_among command (kept_discards (shelf_behind decision name shelf present)) ≡ false) × (names (store_behind decision name shelf present) command ≡ false))
+
+was_owed : (decision : Decision) (name : List ℕ) (shelf : List Kept) (present : Book) → AllByRecursion (IsOwed decision name shelf present) present.pending
+was_owed decision name shelf present = all_turned (λ (c : Command). is_among c present.pending ≡ true) (IsOwed decision name shelf present) present.pending (λ c e. inl e) (own_there present.pending)
+
+pub owed : (decision : Decision) (name : List ℕ) (shelf : List Kept) (present : Book) → AllByRecursion (IsOwed decision name shelf present) (store_behind decision name shelf present).pending
+owed Asks name shelf present = was_owed Asks name shelf present
+owed Leaves name shelf present = was_owed Leaves name shelf present
+owed Stays name shelf present = added_unnamed shelf (shelf_behind Stays name shelf present) (raised shelf present) present.pending (own_there present.pending)
+owed (Restores kept) name shelf present =
+    added_unnamed shelf (shelf_behind (Restores kept) name shelf present) (brought_back name shelf present kept) present.pending
+    (all_left (λ (c : Command). not (is_among c (discards (entries_in (sessions_back (which_back name shelf present) (sessions kept.book) (sessions (raised shelf present))))))) (λ (c : Command). is_among c present.pending ≡ true) present.pending (own_there present.pending))
+owed Unknown name shelf present = was_owed Unknown name shelf present
+owed Begins name shelf present = added_unnamed shelf (shelf_behind Begins name shelf present) (begun name shelf present) present.pending (own_there present.pending)

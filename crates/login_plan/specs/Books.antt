@@ -19,5 +19,5 @@ AreKept shelf = AllByRecursion (λ kept. KeepsRules kept.book) shelf
 abbrev pub HasBooks : Plan → Type 0
 HasBooks Ask = Unit {0}
 HasBooks Leave = Unit {0}
-HasBooks (Keep book) = IsStored book
-HasBooks (Return first book) = IsStored first × IsStored book
+HasBooks (Keep first book) = IsStored first × IsStored book
+HasBooks (Return first back book) = IsStored first × IsStored back × IsStored book

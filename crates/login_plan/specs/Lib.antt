@@ -1,4 +1,5 @@
 pub mod Logins
+pub mod Dues
 pub mod Plans
 pub mod Books
 pub mod Laws

@@ -8,6 +8,7 @@ use Rattle.session_return.specs.declared.returns.Which.{Which}
 use Rattle.session_return.specs.declared.returns.Which.TheVariants.{One, All}
 use Rattle.kept_books.specs.Shelves.{kept_again, top_epoch}
 use Rattle.kept_books.specs.declared.shelves.Kept.{Kept}
+use Rattle.login_plan.specs.Dues.{with_due}
 use Rattle.login_plan.specs.Logins.{is_behind, is_lost, must_ask, offered}
 use Rattle.login_plan.specs.declared.decisions.Choice.{Choice}
 use Rattle.login_plan.specs.declared.decisions.Choice.TheVariants.{Unasked, Stay, Nobody, Back, Anew}
@@ -58,15 +59,7 @@ brought_back name shelf present kept = put_back (which_back name shelf present) 
 abbrev pub begun : List ℕ → List Kept → Book → Book
 begun name shelf present = begun_anew name (raised shelf present)
 
--- what the store and the shelf have behind a login for which that was decided
-abbrev pub store_behind : Decision → List ℕ → List Kept → Book → Book
-store_behind Asks name shelf present = present
-store_behind Leaves name shelf present = present
-store_behind Stays name shelf present = raised shelf present
-store_behind (Restores kept) name shelf present = brought_back name shelf present kept
-store_behind Unknown name shelf present = present
-store_behind Begins name shelf present = begun name shelf present
-
+-- what the shelf and the store have behind a login for which that was decided; what books named that go from the shelf is due
 abbrev pub shelf_behind : Decision → List ℕ → List Kept → Book → List Kept
 shelf_behind Asks name shelf present = shelf
 shelf_behind Leaves name shelf present = shelf
@@ -74,6 +67,14 @@ shelf_behind Stays name shelf present = kept_again name (raised shelf present) s
 shelf_behind (Restores kept) name shelf present = kept_again name (brought_back name shelf present kept) (kept_again name (raised shelf present) shelf)
 shelf_behind Unknown name shelf present = shelf
 shelf_behind Begins name shelf present = kept_again name (begun name shelf present) (kept_again name (raised shelf present) shelf)
+
+abbrev pub store_behind : Decision → List ℕ → List Kept → Book → Book
+store_behind Asks name shelf present = present
+store_behind Leaves name shelf present = present
+store_behind Stays name shelf present = with_due shelf (shelf_behind Stays name shelf present) (raised shelf present)
+store_behind (Restores kept) name shelf present = with_due shelf (shelf_behind (Restores kept) name shelf present) (brought_back name shelf present kept)
+store_behind Unknown name shelf present = present
+store_behind Begins name shelf present = with_due shelf (shelf_behind Begins name shelf present) (begun name shelf present)
 
 -- it is raised, or there is no epoch for it
 abbrev pub Raises : List Kept → Book → Result Book Refusal → Type 0
@@ -92,11 +93,11 @@ abbrev pub Plans : List ℕ → List Kept → Book → Decision → Result Plan 
 Plans name shelf present decision (Err NoMemory) = Unit {0}
 Plans name shelf present Asks (Ok plan) = plan ≡ Ask
 Plans name shelf present Leaves (Ok plan) = plan ≡ Leave
-Plans name shelf present Stays (Ok plan) = HasEpoch shelf present × (plan ≡ Keep (raised shelf present))
+Plans name shelf present Stays (Ok plan) = HasEpoch shelf present × (plan ≡ Keep (raised shelf present) (store_behind Stays name shelf present))
 Plans name shelf present (Restores kept) (Ok plan) =
-    HasEpoch shelf present × MayComeBack (which_back name shelf present) kept.book (raised shelf present) × (plan ≡ Return (raised shelf present) (brought_back name shelf present kept))
+    HasEpoch shelf present × MayComeBack (which_back name shelf present) kept.book (raised shelf present) × (plan ≡ Return (raised shelf present) (brought_back name shelf present kept) (store_behind (Restores kept) name shelf present))
 Plans name shelf present Unknown (Ok plan) = ⊥
-Plans name shelf present Begins (Ok plan) = HasEpoch shelf present × (plan ≡ Return (raised shelf present) (begun name shelf present))
+Plans name shelf present Begins (Ok plan) = HasEpoch shelf present × (plan ≡ Return (raised shelf present) (begun name shelf present) (store_behind Begins name shelf present))
 Plans name shelf present Asks (Err refusal) = ⊥
 Plans name shelf present Leaves (Err refusal) = ⊥
 Plans name shelf present Stays (Err refusal) = (refusal ≡ Stopped Worn) × ¬ (HasEpoch shelf present)

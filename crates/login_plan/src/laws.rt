@@ -1,4 +1,4 @@
-ghost use Rattle.login_plan.specs.Laws.{AgainComesToTheSame, AnAnswerStands, EpochsStayBehind, NobodyIsAskedAgain, OthersStay, StoresNeverFall, WhatWasIsKept};
+ghost use Rattle.login_plan.specs.Laws.{AgainComesToTheSame, AnAnswerStands, EpochsStayBehind, NobodyIsAskedAgain, OthersStay, StoresNeverFall, WhatGoesIsDue, WhatIsDueIsUnnamed, WhatWasIsKept};
 
 /// Does nothing: its contract is a law of all logins. Where the session stays as it is, or something
 /// comes back, or it begins anew, the next login doesn't ask again.
@@ -29,8 +29,20 @@ pub fn others_stay()
     ensures { OthersStay }
 {}
 
+/// Does nothing: its contract is a law of all logins. What a book named that went from the shelf, and
+/// nobody names any more, is to be discarded, as far as 320 commands go.
+pub fn what_goes_is_due()
+    ensures { WhatGoesIsDue }
+{}
+
+/// Does nothing: its contract is a law of all logins. A login adds no command to those that are pending
+/// which the shelf or the store's book names.
+pub fn what_is_due_is_unnamed()
+    ensures { WhatIsDueIsUnnamed }
+{}
+
 /// Does nothing: its contract is a law of all logins. An order to bring a kept session back that was
-/// cut short comes to the same book where it is given again.
+/// cut short comes to the same sessions and the same epoch where it is given again.
 pub fn again_comes_to_the_same()
     ensures { AgainComesToTheSame }
 {}

@@ -1,10 +1,11 @@
-ghost use Rattle.std.specs.Prelude.{◌≡◌, ℕ, List, IfOk};
+ghost use Rattle.std.specs.Prelude.{◌≡◌, IfOk};
 ghost use Rattle.login_plan.specs.Books.{AreKept, HasBooks, IsStored};
 ghost use Rattle.login_plan.specs.Plans.{Plans, Raises, decided, which_back as all_or_one};
 ghost use Rattle.login_plan.specs.declared.decisions.Decision.TheVariants.{Begins as BeginsNow, Restores as RestoresThis, Stays as StaysSo};
 ghost use Rattle.login_plan.specs.declared.plans.Refusal.TheVariants.{NoMemory as LacksMemory};
 
 use crate::decisions::{Choice, Decision, decide};
+use crate::dues::{due_once, due_twice};
 use crate::finds::{is_behind, is_lost};
 use checkpoint_records::{Book, copy_book};
 use kept_books::{Kept, top_epoch};
@@ -22,10 +23,11 @@ pub enum Plan {
     Ask,
     /// Nothing.
     Leave,
-    /// The book is kept, and the store gets it.
-    Keep(Book),
-    /// The first book is kept; then the store gets the second, which is kept too.
-    Return(Book, Book),
+    /// The first book is kept, and the store gets the second, which is the first with what is due.
+    Keep(Book, Book),
+    /// The first book is kept; then the store gets the third, which is the second with what is due;
+    /// and the second is kept too.
+    Return(Book, Book, Book),
 }
 
 /// Why a login does nothing.
@@ -79,13 +81,16 @@ pub fn which_back(
     }
 }
 
-fn kept_so(shelf: &[Kept], present: &Book) -> Result<Plan, Refusal>
-    ensures { (name : List ℕ) → Plans name shelf.now present.now StaysSo result }
+/// The session is kept as it is.
+fn kept_so(alloc: Global, name: &[u8], shelf: &[Kept], present: &Book) -> Result<Plan, Refusal>
+    ensures { Plans name.now shelf.now present.now StaysSo result }
 {
-    match raised(shelf, present) {
-        Ok(book) => Ok(Plan::Keep(book)),
-        Err(refusal) => Err(refusal),
-    }
+    let first = match raised(shelf, present) {
+        Ok(book) => book,
+        Err(refusal) => return Err(refusal),
+    };
+    let book = due_once(alloc, name, shelf, &first)?;
+    Ok(Plan::Keep(first, book))
 }
 
 fn brought_back(
@@ -102,11 +107,13 @@ fn brought_back(
         Err(refusal) => return Err(refusal),
     };
     let which = which_back(alloc, name, shelf, present)?;
-    match put_back(alloc, &which, &kept.book, &first) {
-        Ok(book) => Ok(Plan::Return(first, book)),
-        Err(ReturnRefusal::Stopped(obstacle)) => Err(Refusal::Stopped(obstacle)),
-        Err(ReturnRefusal::NoMemory) => Err(Refusal::NoMemory),
-    }
+    let back = match put_back(alloc, &which, &kept.book, &first) {
+        Ok(back) => back,
+        Err(ReturnRefusal::Stopped(obstacle)) => return Err(Refusal::Stopped(obstacle)),
+        Err(ReturnRefusal::NoMemory) => return Err(Refusal::NoMemory),
+    };
+    let book = due_twice(alloc, name, shelf, &first, &back)?;
+    Ok(Plan::Return(first, back, book))
 }
 
 /// The session is kept as it is, and begins anew.
@@ -117,8 +124,9 @@ fn begun(alloc: Global, name: &[u8], shelf: &[Kept], present: &Book) -> Result<P
         Ok(book) => book,
         Err(refusal) => return Err(refusal),
     };
-    let book = begin_anew(alloc, name, &first)?;
-    Ok(Plan::Return(first, book))
+    let anew = begin_anew(alloc, name, &first)?;
+    let book = due_twice(alloc, name, shelf, &first, &anew)?;
+    Ok(Plan::Return(first, anew, book))
 }
 
 fn planned(
@@ -133,7 +141,7 @@ fn planned(
     match decision {
         Decision::Asks => Ok(Plan::Ask),
         Decision::Leaves => Ok(Plan::Leave),
-        Decision::Stays => kept_so(shelf, present),
+        Decision::Stays => kept_so(alloc, name, shelf, present),
         Decision::Restores(kept) => brought_back(alloc, name, shelf, present, kept),
         Decision::Unknown => Err(Refusal::NoNumber),
         Decision::Begins => begun(alloc, name, shelf, present),

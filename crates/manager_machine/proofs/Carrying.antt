@@ -47,13 +47,19 @@ completing-book (End end) s =
     ∙ closed-book end.others (moved_all (gave_each Die end.registered) s)
     ∙ gave-book Die end.registered s
 
+-- what is spared stays, whatever is done
+pub spared-stays : (moves : List Move) (s : Session) → (moved_all moves s).spared ≡ s.spared
+spared-stays [] s = refl
+spared-stays (m ∷ moves) s = spared-stays moves (moved m s)
+
 -- all that a plan brings, one after another
-pub carried : (plan : Plan) (book : Book) (s t : Session) → t ≡ moved_all (completing plan.completion) (moved Agreed (moved (Committed book) s)) → moved_all (discarding plan.standing t.book) t ≡ moved_all (carrying plan book) s
+pub carried : (plan : Plan) (book : Book) (s t : Session) → t ≡ moved_all (completing plan.completion) (moved Agreed (moved (Committed book) s)) → moved_all (discarding t.spared plan.standing t.book) t ≡ moved_all (carrying s.spared plan book) s
 carried plan book s t e =
     let begun = moved Agreed (moved (Committed book) s) in
-    ap (λ (t : Session). moved_all (discarding plan.standing t.book) t) e
-    ∙ ap (λ (written : Book). moved_all (discarding plan.standing written) (moved_all (completing plan.completion) begun)) (completing-book plan.completion begun)
-    ∙ sym (all-append (completing plan.completion) (discarding plan.standing book) begun)
+    ap (λ (t : Session). moved_all (discarding t.spared plan.standing t.book) t) e
+    ∙ ap (λ (spared : List Command). moved_all (discarding spared plan.standing (moved_all (completing plan.completion) begun).book) (moved_all (completing plan.completion) begun)) (spared-stays (completing plan.completion) begun)
+    ∙ ap (λ (written : Book). moved_all (discarding s.spared plan.standing written) (moved_all (completing plan.completion) begun)) (completing-book plan.completion begun)
+    ∙ sym (all-append (completing plan.completion) (discarding s.spared plan.standing book) begun)
 
 -- What was computed from a session is what its agreement brings.
 pub planned-as : (r : Reading) (round : Agreement) (plan : Plan) → plan.entries ≡ next_entries r round
@@ -61,6 +67,6 @@ pub planned-as : (r : Reading) (round : Agreement) (plan : Plan) → plan.entrie
     → planned r.store plan ≡ agreement r round
 planned-as r round plan e k t =
     let book = with_entries r.store plan.entries in
-    ap (λ (moves : List Move). Committed book ∷ Agreed ∷ moves ++ discarding plan.standing book) k
-    ∙ ap (λ (commands : List Command). Committed book ∷ Agreed ∷ completed round.wanted.shutdown r.clients round book ++ discarding commands book) t
-    ∙ ap (λ (entries : List Entry). agreement_with r.clients round (with_entries r.store entries)) e
+    ap (λ (moves : List Move). Committed book ∷ Agreed ∷ moves ++ discarding r.store.spared plan.standing book) k
+    ∙ ap (λ (commands : List Command). Committed book ∷ Agreed ∷ completed round.wanted.shutdown r.clients round book ++ discarding r.store.spared commands book) t
+    ∙ ap (λ (entries : List Entry). agreement_with r round (with_entries r.store entries)) e

@@ -71,6 +71,7 @@ stands-quiet s h st = record {
   counts_are = st.counts_are;
   ending_is = st.ending_is;
   patience_is = st.patience_is;
+  spared_is = st.spared_is;
   marks_are = st.marks_are;
 }
 

@@ -19,13 +19,13 @@ abbrev pub completing : Completion → List Move
 completing (Save conns) = gave_each SaveComplete conns
 completing (End end) = ending end
 
--- the pending commands of a book are tried, where they aren't among those that stand
-abbrev pub discarding : List Command → Book → List Move
-discarding standing book = issue book (issuable standing book.pending)
+-- the pending commands of a book are tried, where they are neither spared nor among those that stand
+abbrev pub discarding : List Command → List Command → Book → List Move
+discarding spared standing book = issue spared book (issuable standing book.pending)
 
-abbrev pub carrying : Plan → Book → List Move
-carrying plan book = Committed book ∷ Agreed ∷ completing plan.completion ++ discarding plan.standing book
+abbrev pub carrying : List Command → Plan → Book → List Move
+carrying spared plan book = Committed book ∷ Agreed ∷ completing plan.completion ++ discarding spared plan.standing book
 
 -- all that a plan brings
 abbrev pub planned : Store → Plan → List Move
-planned store plan = carrying plan (with_entries store plan.entries)
+planned store plan = carrying store.spared plan (with_entries store plan.entries)

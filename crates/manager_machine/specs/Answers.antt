@@ -1,5 +1,6 @@
 -- What is done about an event, as moves.
 use Rattle.std.specs.Prelude.{List, None, Option, Some, [], codes, flat_map, ℕ, ◌++◌, ◌∷◌}
+use Rattle.owned_lists.specs.declared.commands.Command.{Command}
 use Rattle.checkpoint_records.specs.declared.records.Book.{Book}
 use Rattle.xsmp_messages.specs.declared.message.XsmpMessage.TheVariants.{GetPropertiesReply, RegisterClientReply, ShutdownCancelled}
 use Rattle.discard_ledger.specs.Discards.{issuable}
@@ -30,9 +31,10 @@ shut_moves c again = Closed c ∷ again_moves again
 abbrev pub departures_moves : List Departure → List Move
 departures_moves departures = flat_map (λ departure. shut_moves departure.conn departure.again) departures
 
--- this book is written; then the client's ResignCommand is started, and the pending commands that stand in no table
-abbrev pub forget_moves : Forgetting → Book → List Move
-forget_moves plan book = Printed (codes "ok") ∷ Committed book ∷ resigned plan.resign ++ issue book (issuable plan.standing book.pending)
+-- This book is written; then the client's ResignCommand is started, and the pending commands that stand in no table, but for
+-- those that are spared.
+abbrev pub forget_moves : List Command → Forgetting → Book → List Move
+forget_moves spared plan book = Printed (codes "ok") ∷ Committed book ∷ resigned plan.resign ++ issue spared book (issuable plan.standing book.pending)
 
 -- a reply as moves, in the session in which it is done: only the book without an entry depends on that
 abbrev pub moves_of : Session → Reply → List Move
@@ -48,4 +50,4 @@ moves_of s (StartAgain again) = again_moves again
 moves_of s (Print text) = Printed text ∷ []
 moves_of s (PrintAndCallOff conns) = Printed (codes "ok") ∷ call_off_moves conns
 moves_of s (PrintAndShut c again) = Printed (codes "ok") ∷ shut_moves c again
-moves_of s (Forget plan) = forget_moves plan (with_entries (reading_in s).store plan.entries)
+moves_of s (Forget plan) = forget_moves s.spared plan (with_entries (reading_in s).store plan.entries)

@@ -103,25 +103,34 @@ impl Core {
         Ok(())
     }
 
-    /// Tries these commands, which are pending; and then, where there was one, writes the book
-    /// without them.
+    /// Copies of those commands that aren't spared.
+    fn unspared(&self, commands: &CommandList) -> Result<CommandList, NoMemory>
+        ensures { IfOk result (λ tried. tried ≡ without_commands self.now.spared commands.now) }
+    {
+        let pending = Ledger::new(*self.acts.allocator(), commands.copy()?);
+        pending.issuable(&self.spared)
+    }
+
+    /// Tries these commands, which are pending, but for those that are spared; and then, where
+    /// there was one, writes the book without all of them.
     pub(crate) fn issue(&mut self, commands: &CommandList) -> Result<(), NoMemory>
-        ensures { OnOk result
-            (self.new ≡ moved_all (issue_moves self.old.book commands.now) self.old) }
+        ensures { OnOk result (self.new
+            ≡ moved_all (issue_moves self.old.spared self.old.book commands.now) self.old) }
     {
         if commands.as_slice().is_empty() {
             return Ok(());
         }
         let book = self.book_without(commands)?;
-        self.start_each(Reason::Discard, commands)?;
+        let tried = self.unspared(commands)?;
+        self.start_each(Reason::Discard, &tried)?;
         self.commit(book)?;
         Ok(())
     }
 
-    /// Tries the pending commands, but for those that stand.
+    /// Tries the pending commands, but for those that stand and those that are spared.
     pub(crate) fn discard(&mut self, standing: &CommandList) -> Result<(), NoMemory>
-        ensures { OnOk result
-            (self.new ≡ moved_all (discarding standing.now self.old.book) self.old) }
+        ensures { OnOk result (self.new
+            ≡ moved_all (discarding self.old.spared standing.now self.old.book) self.old) }
     {
         let commands = self.ledger.issuable(standing)?;
         self.issue(&commands)?;

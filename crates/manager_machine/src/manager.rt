@@ -12,7 +12,7 @@ ghost use Rattle.manager_machine.specs.Keeper.{AreFit, StandsFor};
 use crate::faults::TakeFault;
 use crate::session_core::{Acts, Core};
 use checkpoint_records::Book;
-use owned_lists::NoMemory;
+use owned_lists::{CommandList, NoMemory};
 use session_clients::is_bound;
 use session_model::{Marks, Phase, SessionEvent};
 use sm_world::Conn;
@@ -42,18 +42,24 @@ impl Model for Manager {
 impl Manager {
     /// Opens a book: a run begins, with the next epoch. The acts write the book anew, start its
     /// pending commands and drop them from it, and start the clients of the last run again. A
-    /// client that is waited for may be silent for `patience` milliseconds; 0 is for ever.
-    pub fn begin(alloc: Global, book: Book, patience: u64) -> Result<(Manager, Acts), NoMemory>
+    /// client that is waited for may be silent for `patience` milliseconds; 0 is for ever. Of the
+    /// pending commands none is ever started that is among `spared`.
+    pub fn begin(
+        alloc: Global,
+        book: Book,
+        patience: u64,
+        spared: CommandList,
+    ) -> Result<(Manager, Acts), NoMemory>
         requires rules { KeepsRules book }
         requires few { length book.others ≤ 7 }
         requires epoch { book.epoch < 4294967295 }
         ensures stands { IfOk result (λ begun.
-            StandsFor begun.0 (opened (waits_for patience book))) }
+            StandsFor begun.0 (opened (waits_for patience spared book))) }
         ensures acts { IfOk result (λ begun. begun.1
-            ≡ all_acts (opened (waits_for patience book))) }
+            ≡ all_acts (opened (waits_for patience spared book))) }
         ensures fit { IfOk result (λ begun. AreFit begun.1) }
     {
-        let mut core = Core::open(alloc, book, patience)?;
+        let mut core = Core::open(alloc, book, patience, spared)?;
         core.begin_run()?;
         let acts = core.hand_over();
         let manager = Manager {

@@ -9,7 +9,7 @@ use checkpoint_records::{Book, Entry, copy_book};
 use discard_ledger::Ledger;
 use ice_values::Array8;
 use interact_queue::InteractQueue;
-use owned_lists::{Duplicate, NoMemory};
+use owned_lists::{CommandList, Duplicate, NoMemory};
 use restart_plan::plan;
 use session_clients::Clients;
 use session_model::Reason;
@@ -18,8 +18,13 @@ use std::alloc::Global;
 
 impl Core {
     /// Nobody is there yet, and this book was opened.
-    pub(crate) fn open(alloc: Global, book: Book, patience: u64) -> Result<Core, NoMemory>
-        ensures { IfOk result (λ core. core ≡ session_of (waits_for patience book)) }
+    pub(crate) fn open(
+        alloc: Global,
+        book: Book,
+        patience: u64,
+        spared: CommandList,
+    ) -> Result<Core, NoMemory>
+        ensures { IfOk result (λ core. core ≡ session_of (waits_for patience spared book)) }
     {
         let ledger = Ledger::new(alloc, book.pending.copy()?);
         let expected = ids_in(alloc, book.entries.as_slice())?;
@@ -36,15 +41,17 @@ impl Core {
             counts: Vec::new(alloc),
             is_ending: false,
             patience,
+            spared,
             acts: Vec::new(alloc),
         })
     }
 
-    /// Writes the book with the next epoch, tries what is pending, and starts the clients of the
-    /// last run again.
+    /// Writes the book with the next epoch, tries what is pending and isn't spared, and starts the
+    /// clients of the last run again.
     pub(crate) fn begin_run(&mut self) -> Result<(), NoMemory>
         requires { self.old.book.epoch < 4294967295 }
-        ensures { OnOk result (self.new ≡ moved_all (opening_moves self.old.book) self.old) }
+        ensures { OnOk result (self.new ≡ moved_all
+            (opening_moves (waits_for self.old.patience self.old.spared self.old.book)) self.old) }
     {
         let restarts = plan(*self.acts.allocator(), &self.book)?;
         let pending = self.book.pending.copy()?;

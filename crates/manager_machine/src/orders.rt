@@ -210,7 +210,8 @@ impl Core {
     pub(crate) fn forget(&mut self, plan: Forgetting) -> Result<(), NoMemory>
         ensures { OnOk result
             (self.new ≡ moved_all
-            (forget_moves plan (with_entries (reading_in self.old).store plan.entries)) self.old) }
+            (forget_moves self.old.spared plan
+            (with_entries (reading_in self.old).store plan.entries)) self.old) }
     {
         self.print_ok()?;
         self.commit_entries(plan.entries)?;

@@ -13,7 +13,7 @@ use checkpoint_records::Book;
 use discard_ledger::Ledger;
 use ice_values::Array8;
 use interact_queue::InteractQueue;
-use owned_lists::{ListOf, NoMemory};
+use owned_lists::{CommandList, ListOf, NoMemory};
 use session_answers::ArrivalView;
 use session_clients::Clients;
 use session_model::{Act, SessionEvent};
@@ -51,6 +51,8 @@ pub struct Core {
     pub(crate) is_ending: bool,
     /// For how many milliseconds a client may be silent that is waited for; 0 is for ever.
     pub(crate) patience: u64,
+    /// The commands that aren't tried, since what they discard is kept elsewhere.
+    pub(crate) spared: CommandList,
     pub(crate) acts: Vec<Act>,
 }
 
@@ -73,6 +75,7 @@ impl Model for Core {
       counts = core.counts.items;
       is_ending = core.is_ending;
       patience = core.patience;
+      spared = core.spared;
       marks = core.running.marks;
       acts = core.acts.items;
     } };

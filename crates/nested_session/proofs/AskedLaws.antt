@@ -308,10 +308,10 @@ module _ (config : Config) (opening : Book) (agent : Run Keeper) (first : List �
   at_first = begun config opening agent
 
   abbrev opened : List (Woven Item)
-  opened = map (λ deed. Inner (Did deed)) (deeds_in (opening_acts opening)) ++ sent first
+  opened = map (λ deed. Inner (Did deed)) (deeds_in (opening_acts config opening)) ++ sent first
 
   opened_deeds : AreDeeds opened
-  opened_deeds = all-append IsDeed (map (λ deed. Inner (Did deed)) (deeds_in (opening_acts opening))) (sent first) (inner_deeds (deeds_in (opening_acts opening))) (sent_deeds first)
+  opened_deeds = all-append IsDeed (map (λ deed. Inner (Did deed)) (deeds_in (opening_acts config opening))) (sent first) (inner_deeds (deeds_in (opening_acts config opening))) (sent_deeds first)
 
   whole : (events : List Event) (front behind : List (Woven Item)) → front ≡ opened ++ behind → IsAskedFor at_first events behind → IsAskedForIn config opening agent first events front
   whole events front behind is asked = record {

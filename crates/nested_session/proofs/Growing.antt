@@ -87,4 +87,4 @@ pub goes_onto : (m : Machine) (events : List Event) → GoesOnto m.session (afte
 goes_onto m events = kept_all (GoesOnto m.session) (onto_taken m.session) m events (record { moves = []; is = refl })
 
 pub books_written : (config : Config) (opening : Book) (events : List Event) → WritesBooks (after_all (start config opening) events).session
-books_written config opening events = kept_all WritesBooks written-taken (start config opening) events (written-opened (waits_for config.patience opening))
+books_written config opening events = kept_all WritesBooks written-taken (start config opening) events (written-opened (waits_for config.patience config.spared opening))

@@ -68,11 +68,11 @@ module _ (config : Config) (turns : ℕ) (agent : Run Keeper) (first : List ℕ)
 
   -- The opening
 
-  opening_shown : (opening : Book) (es : List Effect) → heard es ≡ [] → items es ≡ run config opening (heard es) → shown (map Inner es) ≡ map (λ deed. Inner (Did deed)) (deeds_in (opening_acts opening))
+  opening_shown : (opening : Book) (es : List Effect) → heard es ≡ [] → items es ≡ run config opening (heard es) → shown (map Inner es) ≡ map (λ deed. Inner (Did deed)) (deeds_in (opening_acts config opening))
   opening_shown opening es deaf is =
       shown_inner es
-      ∙ ap (λ (xs : List Item). map Inner xs) (is ∙ ap (λ (xs : List Event). run config opening xs) deaf ∙ append-nil (map Did (deeds_in (opening_acts opening))))
-      ∙ inner_deeds (deeds_in (opening_acts opening))
+      ∙ ap (λ (xs : List Item). map Inner xs) (is ∙ ap (λ (xs : List Event). run config opening xs) deaf ∙ append-nil (map Did (deeds_in (opening_acts config opening))))
+      ∙ inner_deeds (deeds_in (opening_acts config opening))
 
   opening_wove : (opening : Book) (current : Option Current) (base told : Option (List Effect)) (es : List Effect) → heard es ≡ [] → told ≡ adds base es → Wove config opening current base [] told (map Inner es)
   opening_wove opening current base told es deaf added = record {
@@ -83,7 +83,7 @@ module _ (config : Config) (turns : ℕ) (agent : Run Keeper) (first : List ℕ)
   }
 
   opening_ready : (opening : Book) (current : Option Current) (base told : Option (List Effect)) (session : Session) (stand : Stand) (es : List Effect) → IsRun agent stand → heard es ≡ [] → told ≡ adds base es → StandsFor config opening current session es
-      → Ready config opening current base [] told (record { session = session; agent = Some stand; awaited = None }) (begun config opening agent) (map (λ deed. Inner (Did deed)) (deeds_in (opening_acts opening))) (map Inner es)
+      → Ready config opening current base [] told (record { session = session; agent = Some stand; awaited = None }) (begun config opening agent) (map (λ deed. Inner (Did deed)) (deeds_in (opening_acts config opening))) (map Inner es)
   opening_ready opening current base told session stand es is_run deaf added stands = record {
     wove = opening_wove opening current base told es deaf added;
     all_shown = opening_shown opening es deaf stands.in_order;
@@ -94,8 +94,8 @@ module _ (config : Config) (turns : ℕ) (agent : Run Keeper) (first : List ℕ)
     awaited = refl;
   }
 
-  opened_line : (opening : Book) → (script_for opening []).line ≡ map (λ deed. Inner (Did deed)) (deeds_in (opening_acts opening)) ++ sent first
-  opened_line opening = append-nil (map (λ deed. Inner (Did deed)) (deeds_in (opening_acts opening)) ++ sent first)
+  opened_line : (opening : Book) → (script_for opening []).line ≡ map (λ deed. Inner (Did deed)) (deeds_in (opening_acts config opening)) ++ sent first
+  opened_line opening = append-nil (map (λ deed. Inner (Did deed)) (deeds_in (opening_acts config opening)) ++ sent first)
 
   pub loop_begins : (old mid now : Outside) (session : Session) (stand : Stand) → first ≢ success → IsRun agent stand → mid.coming ≡ old.coming → now.coming ≡ mid.coming → now.size ≡ mid.size → now.told ≡ adds mid.told (sent_on first) → Starts config old mid (Ok session)
       → IsIn old now 0 (record { session = session; agent = Some stand; awaited = None })
@@ -104,7 +104,7 @@ module _ (config : Config) (turns : ℕ) (agent : Run Keeper) (first : List ℕ)
       let deaf : heard es ≡ [] = starts.adds.holds.1 in
       let all : List (Woven Effect) = map Inner es ++ said_on first in
       let nest : Nest = record { session = session; agent = Some stand; awaited = None } in
-      let opened : List (Woven Item) = map (λ deed. Inner (Did deed)) (deeds_in (opening_acts starts.book)) in
+      let opened : List (Woven Item) = map (λ deed. Inner (Did deed)) (deeds_in (opening_acts config starts.book)) in
       let ready : Ready config starts.book starts.current old.told [] now.told nest (begun config starts.book agent) (opened ++ sent first) all =
       ready_said config starts.book starts.current old.told [] mid.told now.told nest (begun config starts.book agent) opened (map Inner es) first (Some stand) (Some agent) None said (λ same. absurd (other same)) is_run
       (opening_ready starts.book starts.current old.told mid.told session stand es is_run deaf starts.adds.added starts.adds.holds.0) in
@@ -167,12 +167,12 @@ module _ (config : Config) (turns : ℕ) (agent : Run Keeper) (first : List ℕ)
   opening_cut : (opening : Book) (current : Option Current) (base told : Option (List Effect)) (fault : ServeFault) (es : List Effect) → heard es ≡ [] → told ≡ adds base es → IsCut config opening current fault es
       → IsCutShort config opening current base [] told fault (script_for opening []).line (map Inner es)
   opening_cut opening current base told fault es deaf added cut =
-      let acts : IsPrefix (deeds es) (deeds_in (opening_acts opening)) =
-      subst (λ (xs : List Act). IsPrefix (deeds es) (deeds_in xs)) (ap (λ (xs : List Event). script config opening xs) deaf ∙ append-nil (opening_acts opening)) (all_front config opening current base [] [] es fault cut) in
+      let acts : IsPrefix (deeds es) (deeds_in (opening_acts config opening)) =
+      subst (λ (xs : List Act). IsPrefix (deeds es) (deeds_in xs)) (ap (λ (xs : List Event). script config opening xs) deaf ∙ append-nil (opening_acts config opening)) (all_front config opening current base [] [] es fault cut) in
       record {
         wove = opening_wove opening current base told es deaf added;
         front = subst (λ (xs : List (Woven Item)). IsPrefix xs (script_for opening []).line) (sym (shown_inner es))
-            (subst (λ (s : List (Woven Item)). IsPrefix (map Inner (items es)) s) (sym (opened_line opening)) (front_shown config opening current base [] [] es (deeds_in (opening_acts opening)) (sent first) deaf acts));
+            (subst (λ (s : List (Woven Item)). IsPrefix (map Inner (items es)) s) (sym (opened_line opening)) (front_shown config opening current base [] [] es (deeds_in (opening_acts config opening)) (sent first) deaf acts));
         cut = subst (λ (xs : List Effect). IsCut config opening current fault xs) (sym (inner_inner es)) cut;
       }
 

@@ -246,8 +246,8 @@ each-closed : (cs : List ℕ) → AllOff cs → AllMoves (map Closed cs)
 each-closed [] all = tt
 each-closed (c ∷ cs) all = (all.0, each-closed cs all.1)
 
-off-discarded : (r : Reading) (book : Book) → AllMoves (discarded r.clients book)
-off-discarded r book = every-issue MoveOff book (issuable (standing r.clients) book.pending) (λ command. tt) tt
+off-discarded : (r : Reading) (book : Book) → AllMoves (discarded r book)
+off-discarded r book = every-issue MoveOff r.store.spared book (issuable (standing r.clients) book.pending) (λ command. tt) tt
 
 off-completed : (b : Bool) (r : Reading) (round : Agreement) (book : Book) → ReadingOff r → AllMembers round.members → AllMoves (completed b r.clients round book)
 off-completed true r round book off all =
@@ -262,7 +262,7 @@ off-completed false r round book off all = each-given SaveComplete (conns_of rou
 off-agreement : (r : Reading) (round : Agreement) → ReadingOff r → AllMembers round.members → AllMoves (agreement r round)
 off-agreement r round off all = (
   tt,
-  (tt, every-append MoveOff (completed round.wanted.shutdown r.clients round (next_book r round)) (discarded r.clients (next_book r round)) (off-completed round.wanted.shutdown r round (next_book r round) off all) (off-discarded r (next_book r round))),
+  (tt, every-append MoveOff (completed round.wanted.shutdown r.clients round (next_book r round)) (discarded r (next_book r round)) (off-completed round.wanted.shutdown r round (next_book r round) off all) (off-discarded r (next_book r round))),
 )
 
 off-over : (b : Bool) → AllMoves (over_rule b)
@@ -373,7 +373,7 @@ off-resigned None = tt
 off-resigned (Some command) = (tt, tt)
 
 off-forgotten : (r : Reading) (entry : Entry) (book : Book) → AllMoves (forgotten r entry book)
-off-forgotten r entry book = (tt, (tt, every-append MoveOff (resigned (command_anyway (codes "ResignCommand") entry)) (discarded r.clients book) (off-resigned (command_anyway (codes "ResignCommand") entry)) (off-discarded r book)))
+off-forgotten r entry book = (tt, (tt, every-append MoveOff (resigned (command_anyway (codes "ResignCommand") entry)) (discarded r book) (off-resigned (command_anyway (codes "ResignCommand") entry)) (off-discarded r book)))
 
 off-forget_one : (r : Reading) (id : List ℕ) (entry : Option Entry) → AllMoves (forget_one r id entry)
 off-forget_one r id None = (tt, tt)
@@ -407,11 +407,11 @@ taken-off event h off conn =
     taken-keeps HistoryOff (λ g k. onto-off g (rule (reading g)) k (off-rule (reading g) (reading-off g k))) (λ g k. (tt, k)) event h
     (onto-off (Outside event ▷ h) (reply (reading h) event) (conn, off) (off-reply (reading h) event (reading-off h off) conn))
 
-off-opening : (book : Book) → AllMoves (opening_moves book)
-off-opening book = every-opening MoveOff book (λ cause command. tt) (λ written. tt)
+off-opening : (opening : Opening) → AllMoves (opening_moves opening)
+off-opening opening = every-opening MoveOff opening (λ cause command. tt) (λ written. tt)
 
 pub opened-off : (opening : Opening) → HistoryOff (opened opening)
-opened-off opening = onto-off (Opened opening) (opening_moves opening.book) tt (off-opening opening.book)
+opened-off opening = onto-off (Opened opening) (opening_moves opening) tt (off-opening opening)
 
 -- ---- acts
 
@@ -436,8 +436,8 @@ acts-of-all : (moves : List Move) → AllMoves moves → AllByRecursion ActOff (
 acts-of-all [] all = tt
 acts-of-all (m ∷ moves) all = all-append ActOff (acts_by m) (flat_map acts_by moves) (acts-by m all.0) (acts-of-all moves all.1)
 
-pub opening-acts-off : (book : Book) → AllByRecursion ActOff (flat_map acts_by (opening_moves book))
-opening-acts-off book = acts-of-all (opening_moves book) (off-opening book)
+pub opening-acts-off : (opening : Opening) → AllByRecursion ActOff (flat_map acts_by (opening_moves opening))
+opening-acts-off opening = acts-of-all (opening_moves opening) (off-opening opening)
 
 pub all-acts-off : (h : History) → HistoryOff h → AllByRecursion ActOff (all_acts h)
 all-acts-off (Opened opening) off = tt

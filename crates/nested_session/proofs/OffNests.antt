@@ -135,8 +135,8 @@ all-taken-off (event ∷ events) n off =
 
 opens-off : (config : Config) (opening : Book) (agent : Run Keeper) (first : List ℕ) → ShowsOff (opens config opening agent first)
 opens-off config opening agent first =
-    let deeds : List Deed = deeds_in (opening_acts opening) in
-    (all-append ItemOff (map (λ deed. Inner (Did deed)) deeds) (sent first) (deeds-shown deeds (opening-deeds opening)) (sent-off first), opened-off (waits_for config.patience opening))
+    let deeds : List Deed = deeds_in (opening_acts config opening) in
+    (all-append ItemOff (map (λ deed. Inner (Did deed)) deeds) (sent first) (deeds-shown deeds (opening-deeds config opening)) (sent-off first), opened-off (waits_for config.patience config.spared opening))
 
 nested-off : (config : Config) (opening : Book) (agent : Run Keeper) (first : List ℕ) (events : List Event) → ShowsOff (nested config opening agent first events)
 nested-off config opening agent first events = chain-off (opens config opening agent first) (all_taken events) (opens-off config opening agent first) (λ n k. all-taken-off events n k)

@@ -9,7 +9,8 @@ use Rattle.ice_framing.specs.Parts.{Part, new_parts}
 use Rattle.checkpoint_records.specs.declared.records.Book.{Book}
 use Rattle.protocol_messages.specs.declared.message.Message.{Message}
 use Rattle.session_model.specs.Books.{opening_moves}
-use Rattle.session_model.specs.Moves.{acts_of as acts_by, all_acts}
+use Rattle.session_model.specs.Moves.{acts_of as acts_by, all_acts, waits_for}
+use Rattle.session_engine.specs.declared.config.Config.{Config}
 use Rattle.session_model.specs.Phases.{is_bound}
 use Rattle.session_model.specs.Readings as of
 use Rattle.session_model.specs.Rules.{taken}
@@ -95,8 +96,9 @@ acts-noted (Does act ∷ line) all = (all.0, acts-noted line all.1)
 pub step-deeds : (made : Step) → StepOff made → AllByRecursion DeedOff (deeds_in (acts_of made))
 step-deeds made off = deeds-off (acts_of made) (acts-noted made.line off.0)
 
-pub opening-deeds : (book : Book) → AllByRecursion DeedOff (deeds_in (opening_acts book))
-opening-deeds book = deeds-off (opening_acts book) (acts-for-all (flat_map acts_by (opening_moves book)) (opening-acts-off book))
+pub opening-deeds : (config : Config) (book : Book) → AllByRecursion DeedOff (deeds_in (opening_acts config book))
+opening-deeds config book =
+    deeds-off (opening_acts config book) (acts-for-all (flat_map acts_by (opening_moves (waits_for config.patience config.spared book))) (opening-acts-off (waits_for config.patience config.spared book)))
 
 -- ---- steps
 

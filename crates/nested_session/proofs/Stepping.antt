@@ -109,11 +109,11 @@ module _ (config : Config) (opening : Book) (current : Option Current) (base : O
   items_step before es event deaf unfinished before_is after_is =
       let acts : List Act = acts_of (step (machine_at before) event) in
       let unfinished_from : has_finish (script_from (start config opening) (heard before)) ≡ false =
-      unfinished_rest (has_finish (opening_acts opening)) (has_finish (script_from (start config opening) (heard before))) (sym (has_finish-append (opening_acts opening) (script_from (start config opening) (heard before))) ∙ unfinished) in
+      unfinished_rest (has_finish (opening_acts config opening)) (has_finish (script_from (start config opening) (heard before))) (sym (has_finish-append (opening_acts config opening) (script_from (start config opening) (heard before))) ∙ unfinished) in
       let more : run config opening (heard (before ++ Heard event ∷ es)) ≡ run config opening (heard before) ++ (Came event ∷ map Did (deeds_in acts)) =
       ap (λ (xs : List Event). run config opening xs) (heard-more before es event deaf)
-      ∙ ap (λ (xs : List Item). map Did (deeds_in (opening_acts opening)) ++ xs) (run_from-more (start config opening) (heard before) event unfinished_from)
-      ∙ sym (append_assoc (map Did (deeds_in (opening_acts opening))) (run_from (start config opening) (heard before)) (Came event ∷ map Did (deeds_in acts))) in
+      ∙ ap (λ (xs : List Item). map Did (deeds_in (opening_acts config opening)) ++ xs) (run_from-more (start config opening) (heard before) event unfinished_from)
+      ∙ sym (append_assoc (map Did (deeds_in (opening_acts config opening))) (run_from (start config opening) (heard before)) (Came event ∷ map Did (deeds_in acts))) in
       let both : items before ++ (Came event ∷ items es) ≡ items before ++ (Came event ∷ map Did (deeds_in acts)) =
       sym (flat_map-append item_of before (Heard event ∷ es)) ∙ after_is ∙ more ∙ ap (λ (xs : List Item). xs ++ (Came event ∷ map Did (deeds_in acts))) (sym before_is) in
       tail_is (append_cancel_left (items before) (Came event ∷ items es) (Came event ∷ map Did (deeds_in acts)) both)

@@ -169,7 +169,7 @@ begun config opening agent = record { machine = start config opening; agent = So
 -- the opening, and the agent's first bytes
 abbrev pub opens : Config → Book → Run Keeper → List ℕ → Shows
 opens config opening agent first =
-    behind (map (λ deed. Inner (Did deed)) (deeds_in (opening_acts opening))) (says first (begun config opening agent))
+    behind (map (λ deed. Inner (Did deed)) (deeds_in (opening_acts config opening))) (says first (begun config opening agent))
 
 -- all that is shown for these events
 abbrev pub nested : Config → Book → Run Keeper → List ℕ → List Event → Shows

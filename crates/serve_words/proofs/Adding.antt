@@ -1,7 +1,7 @@
 -- What more items add to what is chosen already.
 use Rattle.std.proofs.Common.{◌≡◌, ℕ, Bool, true, false, List, [], ◌∷◌, ◌++◌, length, Option, Some, None, is_some, option_to_list, filter, filter_map, flat_map, unwrap_or, refl, sym, ◌∙◌, ap, subst, arith, append_assoc, append-nil, if◌then◌else◌}
-use Rattle.serve_words.specs.Items.{Item, Private, Quirks, LastWait, Record, Pair}
-use Rattle.serve_words.specs.Words.{Chosen, is_private, is_quirks, wait_of, path_of, pair_of, chosen_once}
+use Rattle.serve_words.specs.Items.{Item, Private, Quirks, LastWait, Record, Kept, Pair}
+use Rattle.serve_words.specs.Words.{Chosen, is_private, is_quirks, wait_of, path_of, kept_of, pair_of, chosen_once}
 use Rattle.serve_words.specs.Reading.{with_item}
 
 -- with these items behind what is chosen, this is
@@ -10,6 +10,7 @@ pub record Adds (before : Chosen) (items : List Item) (chosen : Chosen) : Type 0
   pub quirks : chosen_once before.quirks Quirks ++ filter is_quirks items ≡ chosen_once chosen.quirks Quirks
   pub last_wait : option_to_list before.last_wait ++ filter_map wait_of items ≡ option_to_list chosen.last_wait
   pub record_path : option_to_list before.record_path ++ filter_map path_of items ≡ option_to_list chosen.record_path
+  pub kept_path : option_to_list before.kept_path ++ filter_map kept_of items ≡ option_to_list chosen.kept_path
   pub others : before.others ++ flat_map pair_of items ≡ chosen.others
 
 -- no item adds nothing
@@ -19,6 +20,7 @@ adds_none chosen = record {
   quirks = append-nil (chosen_once chosen.quirks Quirks);
   last_wait = append-nil (option_to_list chosen.last_wait);
   record_path = append-nil (option_to_list chosen.record_path);
+  kept_path = append-nil (option_to_list chosen.kept_path);
   others = append-nil chosen.others;
 }
 
@@ -61,6 +63,7 @@ private_on before chosen items e a = record {
   quirks = a.quirks;
   last_wait = a.last_wait;
   record_path = a.record_path;
+  kept_path = a.kept_path;
   others = a.others;
 }
 
@@ -70,6 +73,7 @@ private_off before chosen items e a = record {
   quirks = a.quirks;
   last_wait = a.last_wait;
   record_path = a.record_path;
+  kept_path = a.kept_path;
   others = a.others;
 }
 
@@ -79,6 +83,7 @@ quirks_on before chosen items e a = record {
   quirks = put_off (chosen_once before.quirks Quirks) (Quirks ∷ filter is_quirks items) (chosen_once chosen.quirks Quirks) (empty_once before.quirks Quirks e) a.quirks;
   last_wait = a.last_wait;
   record_path = a.record_path;
+  kept_path = a.kept_path;
   others = a.others;
 }
 
@@ -88,6 +93,7 @@ quirks_off before chosen items e a = record {
   quirks = put_on (chosen_once before.quirks Quirks) (Quirks ∷ filter is_quirks items) (chosen_once chosen.quirks Quirks) (empty_once before.quirks Quirks e) a.quirks;
   last_wait = a.last_wait;
   record_path = a.record_path;
+  kept_path = a.kept_path;
   others = a.others;
 }
 
@@ -97,6 +103,7 @@ wait_on before chosen n items e a = record {
   quirks = a.quirks;
   last_wait = put_off (option_to_list before.last_wait) (n ∷ filter_map wait_of items) (option_to_list chosen.last_wait) (empty_place before.last_wait e) a.last_wait;
   record_path = a.record_path;
+  kept_path = a.kept_path;
   others = a.others;
 }
 
@@ -106,6 +113,7 @@ wait_off before chosen n items e a = record {
   quirks = a.quirks;
   last_wait = put_on (option_to_list before.last_wait) (n ∷ filter_map wait_of items) (option_to_list chosen.last_wait) (empty_place before.last_wait e) a.last_wait;
   record_path = a.record_path;
+  kept_path = a.kept_path;
   others = a.others;
 }
 
@@ -115,6 +123,7 @@ record_on before chosen path items e a = record {
   quirks = a.quirks;
   last_wait = a.last_wait;
   record_path = put_off (option_to_list before.record_path) (path ∷ filter_map path_of items) (option_to_list chosen.record_path) (empty_place before.record_path e) a.record_path;
+  kept_path = a.kept_path;
   others = a.others;
 }
 
@@ -124,6 +133,27 @@ record_off before chosen path items e a = record {
   quirks = a.quirks;
   last_wait = a.last_wait;
   record_path = put_on (option_to_list before.record_path) (path ∷ filter_map path_of items) (option_to_list chosen.record_path) (empty_place before.record_path e) a.record_path;
+  kept_path = a.kept_path;
+  others = a.others;
+}
+
+kept_on : (before chosen : Chosen) (path : List ℕ) (items : List Item) → is_some before.kept_path ≡ false → Adds before (Kept path ∷ items) chosen → Adds (record before { kept_path = Some path }) items chosen
+kept_on before chosen path items e a = record {
+  private = a.private;
+  quirks = a.quirks;
+  last_wait = a.last_wait;
+  record_path = a.record_path;
+  kept_path = put_off (option_to_list before.kept_path) (path ∷ filter_map kept_of items) (option_to_list chosen.kept_path) (empty_place before.kept_path e) a.kept_path;
+  others = a.others;
+}
+
+kept_off : (before chosen : Chosen) (path : List ℕ) (items : List Item) → is_some before.kept_path ≡ false → Adds (record before { kept_path = Some path }) items chosen → Adds before (Kept path ∷ items) chosen
+kept_off before chosen path items e a = record {
+  private = a.private;
+  quirks = a.quirks;
+  last_wait = a.last_wait;
+  record_path = a.record_path;
+  kept_path = put_on (option_to_list before.kept_path) (path ∷ filter_map kept_of items) (option_to_list chosen.kept_path) (empty_place before.kept_path e) a.kept_path;
   others = a.others;
 }
 
@@ -133,6 +163,7 @@ pair_on before chosen name value items a = record {
   quirks = a.quirks;
   last_wait = a.last_wait;
   record_path = a.record_path;
+  kept_path = a.kept_path;
   others = append_assoc before.others (name ∷ value ∷ []) (flat_map pair_of items) ∙ a.others;
 }
 
@@ -142,6 +173,7 @@ pair_off before chosen name value items a = record {
   quirks = a.quirks;
   last_wait = a.last_wait;
   record_path = a.record_path;
+  kept_path = a.kept_path;
   others = sym (append_assoc before.others (name ∷ value ∷ []) (flat_map pair_of items)) ∙ a.others;
 }
 
@@ -159,6 +191,9 @@ adds_on before after chosen (LastWait n) items e a =
 adds_on before after chosen (Record path) items e a =
     let new = new_of (is_some before.record_path) (record before { record_path = Some path }) after e in
     subst (λ it. Adds it items chosen) new.1 (record_on before chosen path items new.0 a)
+adds_on before after chosen (Kept path) items e a =
+    let new = new_of (is_some before.kept_path) (record before { kept_path = Some path }) after e in
+    subst (λ it. Adds it items chosen) new.1 (kept_on before chosen path items new.0 a)
 adds_on before after chosen (Pair name value) items e a =
     let new = new_of false (record before { others = before.others ++ (name ∷ value ∷ []) }) after e in
     subst (λ it. Adds it items chosen) new.1 (pair_on before chosen name value items a)
@@ -177,6 +212,9 @@ adds_off before after chosen (LastWait n) items e a =
 adds_off before after chosen (Record path) items e a =
     let new = new_of (is_some before.record_path) (record before { record_path = Some path }) after e in
     record_off before chosen path items new.0 (subst (λ it. Adds it items chosen) (sym new.1) a)
+adds_off before after chosen (Kept path) items e a =
+    let new = new_of (is_some before.kept_path) (record before { kept_path = Some path }) after e in
+    kept_off before chosen path items new.0 (subst (λ it. Adds it items chosen) (sym new.1) a)
 adds_off before after chosen (Pair name value) items e a =
     let new = new_of false (record before { others = before.others ++ (name ∷ value ∷ []) }) after e in
     pair_off before chosen name value items (subst (λ it. Adds it items chosen) (sym new.1) a)
@@ -187,4 +225,5 @@ adds_no_second before chosen Private items e a = full_once before.private chosen
 adds_no_second before chosen Quirks items e a = full_once before.quirks chosen.quirks Quirks (filter is_quirks items) (old_of before.quirks (record before { quirks = true }) e) a.quirks
 adds_no_second before chosen (LastWait n) items e a = full_place before.last_wait chosen.last_wait n (filter_map wait_of items) (old_of (is_some before.last_wait) (record before { last_wait = Some n }) e) a.last_wait
 adds_no_second before chosen (Record path) items e a = full_place before.record_path chosen.record_path path (filter_map path_of items) (old_of (is_some before.record_path) (record before { record_path = Some path }) e) a.record_path
+adds_no_second before chosen (Kept path) items e a = full_place before.kept_path chosen.kept_path path (filter_map kept_of items) (old_of (is_some before.kept_path) (record before { kept_path = Some path }) e) a.kept_path
 adds_no_second before chosen (Pair name value) items e a = absurd (omega (arith, ap (λ o. length (option_to_list o)) e))

@@ -5,7 +5,7 @@ use Rattle.std.specs.Str.Parse.{digits_value}
 use Rattle.std.specs.Fmt.{decimal}
 use Rattle.std.proofs.lemmas.Slice.Eq.{bytes_eq-Decides}
 use Rattle.std.proofs.lemmas.Fmt.{decimal_is_IsNumeral}
-use Rattle.serve_words.specs.Items.{Item, Private, Quirks, LastWait, Record, Pair, IsItem, IsOther, spelling, private_name, quirks_name, wait_name, record_name}
+use Rattle.serve_words.specs.Items.{Item, Private, Quirks, LastWait, Record, Kept, Pair, IsItem, IsOther, spelling, private_name, quirks_name, wait_name, record_name, kept_name}
 use Rattle.serve_words.specs.Reading.{BeginWith, StandsAt}
 
 unlike_by : (b : Bool) (xs ys : List ℕ) → bytes_eq xs ys ≡ b → xs ≢ ys → b ≡ false
@@ -22,8 +22,11 @@ pub not_same : (xs ys : List ℕ) → bytes_eq xs ys ≡ false → xs ≢ ys
 not_same xs ys is e = true≢false (sym ((bytes_eq-Decides xs ys).1 e) ∙ is)
 
 -- the item that a word and the next one begin
+abbrev kept_or : List ℕ → List ℕ → Item
+kept_or name value = if bytes_eq name kept_name then Kept value else Pair name value
+
 abbrev record_or : List ℕ → List ℕ → Item
-record_or name value = if bytes_eq name record_name then Record value else Pair name value
+record_or name value = if bytes_eq name record_name then Record value else kept_or name value
 
 abbrev wait_or : List ℕ → List ℕ → Item
 wait_or name value = if bytes_eq name wait_name then LastWait (digits_value 10 value) else record_or name value
@@ -42,13 +45,15 @@ pair_back name value other =
     ap (λ t. if t then Private else quirks_or name value) (unlike name private_name other.private)
     ∙ (ap (λ t. if t then Quirks else wait_or name value) (unlike name quirks_name other.quirks)
     ∙ (ap (λ t. if t then LastWait (digits_value 10 value) else record_or name value) (unlike name wait_name other.wait)
-    ∙ ap (λ t. if t then Record value else Pair name value) (unlike name record_name other.recorded)))
+    ∙ (ap (λ t. if t then Record value else kept_or name value) (unlike name record_name other.recorded)
+    ∙ ap (λ t. if t then Kept value else Pair name value) (unlike name kept_name other.kept))))
 
 back : (item : Item) (rest : List (List ℕ)) → IsItem item → read_back (spelling item ++ rest) ≡ item
 back Private rest fits = refl
 back Quirks rest fits = refl
 back (LastWait n) rest fits = ap LastWait (decimal_is_IsNumeral n fits).1
 back (Record path) rest fits = refl
+back (Kept path) rest fits = refl
 back (Pair name value) rest fits = pair_back name value fits
 
 -- two items with which the same words begin are the same
@@ -60,6 +65,7 @@ rest_of Private xs = refl
 rest_of Quirks xs = refl
 rest_of (LastWait n) xs = refl
 rest_of (Record path) xs = refl
+rest_of (Kept path) xs = refl
 rest_of (Pair name value) xs = refl
 
 pub same_rest : (a : Item) (xs ys : List (List ℕ)) → spelling a ++ xs ≡ spelling a ++ ys → xs ≡ ys
@@ -70,6 +76,7 @@ words_of Private = omega arith
 words_of Quirks = omega arith
 words_of (LastWait n) = omega arith
 words_of (Record path) = omega arith
+words_of (Kept path) = omega arith
 words_of (Pair name value) = omega arith
 
 -- an item is a word at least
@@ -117,6 +124,7 @@ no_item ws at few short private quirks Private b = private (first_word ws at Pri
 no_item ws at few short private quirks Quirks b = quirks (first_word ws at Quirks few b)
 no_item ws at few short private quirks (LastWait n) b = omega (arith, few, short, words_left ws at (LastWait n) b)
 no_item ws at few short private quirks (Record path) b = omega (arith, few, short, words_left ws at (Record path) b)
+no_item ws at few short private quirks (Kept path) b = omega (arith, few, short, words_left ws at (Kept path) b)
 no_item ws at few short private quirks (Pair name value) b = omega (arith, few, short, words_left ws at (Pair name value) b)
 
 -- a wait that is no number begins none
@@ -125,4 +133,5 @@ no_wait ws at few named none Private b = omega (arith, ap length (sym named ∙ 
 no_wait ws at few named none Quirks b = omega (arith, ap length (sym named ∙ first_word ws at Quirks (omega (arith, few)) b))
 no_wait ws at few named none (LastWait n) b = none n b.fits (second_word ws at (LastWait n) few b)
 no_wait ws at few named none (Record path) b = omega (arith, ap length (sym named ∙ first_word ws at (Record path) (omega (arith, few)) b))
+no_wait ws at few named none (Kept path) b = omega (arith, ap length (sym named ∙ first_word ws at (Kept path) (omega (arith, few)) b))
 no_wait ws at few named none (Pair name value) b = b.fits.wait (sym (first_word ws at (Pair name value) (omega (arith, few)) b) ∙ named)

@@ -90,6 +90,7 @@ says words chosen begins g = record {
   quirks = g.adds.quirks;
   last_wait = g.adds.last_wait;
   record_path = g.adds.record_path;
+  kept_path = g.adds.kept_path;
   others = g.adds.others;
 }
 
@@ -103,6 +104,7 @@ said words chosen s = record {
     quirks = s.quirks;
     last_wait = s.last_wait;
     record_path = s.record_path;
+    kept_path = s.kept_path;
     others = s.others;
   };
 }

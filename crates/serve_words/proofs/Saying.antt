@@ -2,7 +2,7 @@
 use Rattle.std.proofs.Common.{◌≡◌, ℕ, Bool, true, false, List, [], ◌∷◌, length, get_or, drop, Option, Some, None, option_to_list, filter, filter_map, flat_map, refl, sym, ◌∙◌, ap, ap₂, subst, arith, codes}
 use Rattle.std.specs.List.{AllByRecursion}
 use Rattle.serve_words.specs.Items.{Item, Private, Quirks, IsItem, spelling}
-use Rattle.serve_words.specs.Words.{Chosen, Say, is_private, is_quirks, wait_of, path_of, pair_of, chosen_once}
+use Rattle.serve_words.specs.Words.{Chosen, Say, is_private, is_quirks, wait_of, path_of, kept_of, pair_of, chosen_once}
 use Rattle.serve_words.proofs.Fronts.{same_front, same_rest, some_words}
 
 same_items : (xs ys : List Item) → AllByRecursion IsItem xs → AllByRecursion IsItem ys → flat_map spelling xs ≡ flat_map spelling ys → xs ≡ ys
@@ -26,16 +26,17 @@ same_place None (Some w) e = absurd (omega (arith, ap length e))
 same_place (Some v) None e = absurd (omega (arith, ap length e))
 same_place (Some v) (Some w) e = ap (λ l. Some (get_or l 0 v)) e
 
-abbrev made : Bool → Bool → Option ℕ → Option (List ℕ) → List (List ℕ) → Chosen
-made private quirks wait path others = record { private = private; quirks = quirks; last_wait = wait; record_path = path; others = others }
+abbrev made : Bool → Bool → Option ℕ → Option (List ℕ) → Option (List ℕ) → List (List ℕ) → Chosen
+made private quirks wait path kept others = record { private = private; quirks = quirks; last_wait = wait; record_path = path; kept_path = kept; others = others }
 
-one_chosen : (a b : Chosen) → a.private ≡ b.private → a.quirks ≡ b.quirks → a.last_wait ≡ b.last_wait → a.record_path ≡ b.record_path → a.others ≡ b.others → a ≡ b
-one_chosen a b p q w r o =
-    ap (λ it. made it a.quirks a.last_wait a.record_path a.others) p
-    ∙ (ap (λ it. made b.private it a.last_wait a.record_path a.others) q
-    ∙ (ap (λ it. made b.private b.quirks it a.record_path a.others) w
-    ∙ (ap (λ it. made b.private b.quirks b.last_wait it a.others) r
-    ∙ ap (λ it. made b.private b.quirks b.last_wait b.record_path it) o)))
+one_chosen : (a b : Chosen) → a.private ≡ b.private → a.quirks ≡ b.quirks → a.last_wait ≡ b.last_wait → a.record_path ≡ b.record_path → a.kept_path ≡ b.kept_path → a.others ≡ b.others → a ≡ b
+one_chosen a b p q w r k o =
+    ap (λ it. made it a.quirks a.last_wait a.record_path a.kept_path a.others) p
+    ∙ (ap (λ it. made b.private it a.last_wait a.record_path a.kept_path a.others) q
+    ∙ (ap (λ it. made b.private b.quirks it a.record_path a.kept_path a.others) w
+    ∙ (ap (λ it. made b.private b.quirks b.last_wait it a.kept_path a.others) r
+    ∙ (ap (λ it. made b.private b.quirks b.last_wait b.record_path it a.others) k
+    ∙ ap (λ it. made b.private b.quirks b.last_wait b.record_path b.kept_path it) o))))
 
 pub say_one : (words : List (List ℕ)) (a b : Chosen) → Say words a → Say words b → a ≡ b
 say_one words a b one two =
@@ -45,4 +46,5 @@ say_one words a b one two =
     (same_once a.quirks b.quirks Quirks (sym one.quirks ∙ (ap (filter is_quirks) same ∙ two.quirks)))
     (same_place a.last_wait b.last_wait (sym one.last_wait ∙ (ap (filter_map wait_of) same ∙ two.last_wait)))
     (same_place a.record_path b.record_path (sym one.record_path ∙ (ap (filter_map path_of) same ∙ two.record_path)))
+    (same_place a.kept_path b.kept_path (sym one.kept_path ∙ (ap (filter_map kept_of) same ∙ two.kept_path)))
     (sym one.others ∙ (ap (λ items. codes "serve" ∷ flat_map pair_of items) same ∙ two.others))

@@ -16,6 +16,8 @@ pub enum Item<'a> {
     LastWait(u64),
     /// The path of a file.
     Record(&'a str),
+    /// The path of a folder.
+    Kept(&'a str),
     /// The name of another option, and its value.
     Pair(&'a str, &'a str),
 }
@@ -30,6 +32,7 @@ impl Item<'_> {
             Item::Quirks => 1,
             Item::LastWait(_) => 2,
             Item::Record(_) => 2,
+            Item::Kept(_) => 2,
             Item::Pair(_, _) => 2,
         }
     }
@@ -67,6 +70,9 @@ fn pair_at(alloc: Global, words: &[String], at: usize) -> Result<Option<Item<'_>
     let value = word_at(words, at + 1);
     if is_word(words, at, "--record") {
         return Ok(Some(Item::Record(value)));
+    }
+    if is_word(words, at, "--kept") {
+        return Ok(Some(Item::Kept(value)));
     }
     Ok(Some(Item::Pair(word_at(words, at), value)))
 }

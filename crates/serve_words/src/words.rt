@@ -18,6 +18,8 @@ pub struct ServeWords<'a> {
     pub last_wait: Option<u64>,
     /// The file that takes the record of the session.
     pub record_path: Option<&'a str>,
+    /// The folder with kept books, what these name being spared.
+    pub kept_path: Option<&'a str>,
     /// `serve`, and the names and values that are none of these, as they stand.
     pub others: Vec<String>,
 }
@@ -66,6 +68,7 @@ impl<'a> ServeWords<'a> {
             has_quirks: false,
             last_wait: None,
             record_path: None,
+            kept_path: None,
             others,
         })
     }
@@ -81,6 +84,7 @@ impl<'a> ServeWords<'a> {
             Item::Quirks => Ok(set(&mut self.has_quirks)),
             Item::LastWait(milliseconds) => Ok(fill(&mut self.last_wait, milliseconds)),
             Item::Record(path) => Ok(fill(&mut self.record_path, path)),
+            Item::Kept(path) => Ok(fill(&mut self.kept_path, path)),
             Item::Pair(name, value) => {
                 push_word(alloc, &mut self.others, name)?;
                 push_word(alloc, &mut self.others, value)?;
@@ -91,8 +95,8 @@ impl<'a> ServeWords<'a> {
 }
 
 /// What the words say, where they are `serve` and the options `--private`, `--quirks`,
-/// `--last-wait MS` and `--record FILE`, each once at most, and other names with their values, in any
-/// order.
+/// `--last-wait MS`, `--record FILE` and `--kept FOLDER`, each once at most, and other names with their
+/// values, in any order.
 pub fn read_serve(alloc: Global, words: &[String]) -> Result<Option<ServeWords<'_>>, NoMemory>
     ensures { IfOk result (λ found.
         MatchOption found ((chosen : Chosen) → ¬ (Say (map string_bytes words.now) chosen))

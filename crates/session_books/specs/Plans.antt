@@ -10,7 +10,7 @@ seen held book expected = record {
   clients = clients_in held;
   rounds = record { running = None; waits = [] };
   token = record { waiting = []; is_held = false };
-  store = record { book = book; strays = [] };
+  store = record { book = book; strays = []; spared = [] };
   run = record { given = 0; expected = expected; respawns = λ id. 0; is_ending = false; patience = 0 };
 }
 

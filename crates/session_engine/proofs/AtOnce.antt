@@ -6,7 +6,7 @@ use Rattle.ice_setup.specs.declared.states.AnySetup.{AnySetup}
 use Rattle.ice_setup.specs.declared.states.AnySetup.TheVariants.{AwaitOrder as AtOrder, AwaitSetup as AtSetup, AwaitCookie as AtCookie, AwaitProtocol as AtProtocol, AwaitProtocolCookie as AtProtocolCookie, Ready as AtReady}
 use Rattle.protocol_messages.specs.declared.message.Message.TheVariants.{Ice}
 use Rattle.session_engine.specs.Answers.{message_outcome, speaks_xsmp, staying}
-use Rattle.session_engine.specs.Outcomes.{Outcome, Asks}
+use Rattle.session_engine.specs.Outcomes.{Asks}
 
 pub at_once_ping : (setup : AnySetup) (sequence : ℕ) → speaks_xsmp setup ≡ true → message_outcome setup Ping sequence ≡ staying setup (Some (Ice PingReply))
 at_once_ping (AtOrder s) sequence speaks = absurd cc

@@ -185,7 +185,7 @@ few-all m [] agrees few = few
 few-all m (event ∷ events) agrees few = few-all (step m event).next events (agrees-step m event agrees) (few-step m event agrees few)
 
 pub agrees-start : (config : Config) (book : Book) → Agrees (start config book).connections (start config book).session
-agrees-start config book = record { numbers = sym (opened_live (waits_for config.patience book)); phases = λ q. ap is_some (opened_phase (waits_for config.patience book) q) }
+agrees-start config book = record { numbers = sym (opened_live (waits_for config.patience config.spared book)); phases = λ q. ap is_some (opened_phase (waits_for config.patience config.spared book) q) }
 
 pub always_few : (config : Config) (book : Book) (events : List Event) → length (after_all (start config book) events).connections ≤ live_limit
 always_few config book events = few-all (start config book) events (agrees-start config book) (omega arith)

@@ -1,9 +1,9 @@
 -- The engine's loop: what one turn adds to the effects of a run, whether the world tells them or not.
-use Rattle.std.proofs.Common.{◌≡◌, ◌≢◌, inl, inr, ℕ, zero, suc, ◌+◌, ◌<◌, ◌≤◌, Bool, true, false, List, [], ◌∷◌, ◌++◌, length, take, drop, slice_index, Option, Some, None, Result, Ok, Err, IfErr, refl, sym, ◌∙◌, ap, subst, append_assoc, arith}
+use Rattle.std.proofs.Common.{◌≡◌, ◌≢◌, inl, inr, ℕ, zero, suc, ◌<◌, ◌≤◌, true, false, List, [], ◌∷◌, ◌++◌, length, take, drop, Option, Result, Ok, Err, IfErr, refl, sym, ◌∙◌, ap, subst, append_assoc, arith}
 use Rattle.std.proofs.lemmas.Bool.{false≢true}
 use Rattle.sm_world.specs.Disk.{HasToldSize}
 use Rattle.sm_world.specs.Effects.{heard}
-use Rattle.sm_world.specs.Outside.{Added, NotFallen, Outside, Rose, TakesNext, adds}
+use Rattle.sm_world.specs.Outside.{Added, NotFallen, Outside, TakesNext, adds}
 use Rattle.sm_world.specs.declared.failures.Faults.{Faults}
 use Rattle.sm_world.specs.declared.effects.Effect.{Effect}
 use Rattle.sm_world.specs.declared.effects.Effect.TheVariants.{Heard}
@@ -323,7 +323,7 @@ recovered_by old new opening current sized same is_size recovers file settled = 
 as_opened : (store : Stored) (opening : Book) (P : Stored → Type 0) → store.book ≡ opening → P store → P (store_of store.journal opening)
 as_opened store opening P same p = subst (λ (book : Book). P (store_of store.journal book)) same p
 
-pub opens : (config : Config) (old between new : Outside) (opening : Book) (store : Stored) (session : Session) → store.book ≡ opening → IsRecovered old opening store.journal → opening.name ≡ config.session → length opening.others ≤ 7 → new.size ≡ 16777280 → opening.epoch < 4294967295 → KeepsRules opening → between.told ≡ old.told → Added between.told new.told (Performs store (opening_acts opening) (Ok session.store)) → Shows all_cut session.engine (start config opening) → Starts config old new (Ok session)
+pub opens : (config : Config) (old between new : Outside) (opening : Book) (store : Stored) (session : Session) → store.book ≡ opening → IsRecovered old opening store.journal → opening.name ≡ config.session → length opening.others ≤ 7 → new.size ≡ 16777280 → opening.epoch < 4294967295 → KeepsRules opening → between.told ≡ old.told → Added between.told new.told (Performs store (opening_acts config opening) (Ok session.store)) → Shows all_cut session.engine (start config opening) → Starts config old new (Ok session)
 opens config old between new opening store session same recovered called few sized below rules quiet done shows = record {
   book = opening;
   current = store.journal;
@@ -336,11 +336,11 @@ opens config old between new opening store session same recovered called few siz
   adds = record {
     effects = done.effects;
     added = done.added ∙ ap (λ t. adds t done.effects) quiet;
-    holds = (stands_begin config opening store.journal session done.effects (as_opened store opening (λ s. Performs s (opening_acts opening) (Ok session.store) done.effects) same done.holds) shows, done.holds.out.going.deaf);
+    holds = (stands_begin config opening store.journal session done.effects (as_opened store opening (λ s. Performs s (opening_acts config opening) (Ok session.store) done.effects) same done.holds) shows, done.holds.out.going.deaf);
   };
 }
 
-pub opens_not : (config : Config) (old between new : Outside) (opening : Book) (store : Stored) (halt : Halt) (fault : ServeFault) → store.book ≡ opening → fault ≡ fault_of halt → IsRecovered old opening store.journal → opening.name ≡ config.session → length opening.others ≤ 7 → new.size ≡ 16777280 → opening.epoch < 4294967295 → KeepsRules opening → between.told ≡ old.told → Added between.told new.told (Performs store (opening_acts opening) (Err halt)) → Starts config old new (Err fault)
+pub opens_not : (config : Config) (old between new : Outside) (opening : Book) (store : Stored) (halt : Halt) (fault : ServeFault) → store.book ≡ opening → fault ≡ fault_of halt → IsRecovered old opening store.journal → opening.name ≡ config.session → length opening.others ≤ 7 → new.size ≡ 16777280 → opening.epoch < 4294967295 → KeepsRules opening → between.told ≡ old.told → Added between.told new.told (Performs store (opening_acts config opening) (Err halt)) → Starts config old new (Err fault)
 opens_not config old between new opening store halt fault same is_fault recovered called few sized below rules quiet done = rw is_fault (inr (record {
   book = opening;
   current = store.journal;
@@ -353,7 +353,7 @@ opens_not config old between new opening store halt fault same is_fault recovere
   adds = record {
     effects = done.effects;
     added = done.added ∙ ap (λ t. adds t done.effects) quiet;
-    holds = (record { runs = runs_unopened config opening store.journal halt done.effects (as_opened store opening (λ s. Performs s (opening_acts opening) (Err halt) done.effects) same done.holds); in_time = never_spent halt }, done.holds.out.going.deaf);
+    holds = (record { runs = runs_unopened config opening store.journal halt done.effects (as_opened store opening (λ s. Performs s (opening_acts config opening) (Err halt) done.effects) same done.holds); in_time = never_spent halt }, done.holds.out.going.deaf);
   };
 }))
 

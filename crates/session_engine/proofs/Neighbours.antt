@@ -5,12 +5,12 @@ use Rattle.std.proofs.lemmas.Grind.{flat_map-append}
 use Rattle.std.specs.List.{flat_map}
 use Rattle.sm_world.specs.declared.events.Event.{Event}
 use Rattle.sm_world.specs.declared.events.Event.TheVariants.{Joined, Piece, Gone, Operator, Tick, End}
-use Rattle.book_order.specs.Order.{GoesOn, InOrder, book_of, books_of, last_of}
+use Rattle.book_order.specs.Order.{GoesOn, InOrder, books_of, last_of}
 use Rattle.book_order.proofs.Ordering.{books_keep, last_of-append, openings_keep, order-append}
 use Rattle.checkpoint_records.specs.declared.records.Book.{Book}
 use Rattle.session_engine.specs.declared.config.Config.{Config}
 use Rattle.ice_framing.specs.Parts.{Part, new_parts}
-use Rattle.session_model.specs.Moves.{History, Opened, Opening, all_acts, waits_for}
+use Rattle.session_model.specs.Moves.{Opened, Opening, waits_for}
 use Rattle.session_model.specs.Phases.{is_bound}
 use Rattle.session_model.specs.Readings as of
 use Rattle.session_model.specs.Rules.{opened, taken}
@@ -18,9 +18,9 @@ use Rattle.session_model.specs.declared.events.Act.{Act as SessionAct}
 use Rattle.session_model.specs.declared.events.Act.TheVariants.{Blame, Commit as Commits, Finish as Finishes, Print as Prints, Say as Says, Shut as Shuts, Start as Starts, Unset as Unsets}
 use Rattle.session_model.specs.declared.events.SessionEvent.{SessionEvent}
 use Rattle.session_model.specs.declared.events.SessionEvent.TheVariants.{Joined as HasJoined, Ready, Said, Left, Operator as Ordered, Tick as Ticked}
-use Rattle.session_engine.specs.Acts.{acts_for_all, book_after, book_in, books_in, has_finish, says}
+use Rattle.session_engine.specs.Acts.{acts_for_all, book_after, books_in, has_finish, says}
 use Rattle.session_engine.specs.Answers.{outcome, sequence_after}
-use Rattle.session_engine.specs.Machine.{Connection, Does, Entry, Machine, Step, act_in, acts_of, acts_since, after_all, answered, asked, behind, brought, connection_of, departs, does, fed_on, gone_for, greeted, greeting, join_for, joining, noted, opening_acts, part_for, part_taken, parted, parts_taken, piece_for, script_from, script_of, start, stays, step, told}
+use Rattle.session_engine.specs.Machine.{Connection, Does, Entry, Machine, Step, act_in, acts_of, acts_since, answered, asked, behind, connection_of, departs, does, fed_on, gone_for, greeted, greeting, join_for, joining, noted, opening_acts, part_for, part_taken, parted, parts_taken, piece_for, script_from, script_of, start, step, told}
 use Rattle.session_engine.specs.declared.acts.Act.{Act}
 use Rattle.session_engine.specs.Outcomes.{Answer, Stays, Begins, Closes, Speaks, Asks, Outcome}
 use Rattle.protocol_messages.specs.declared.message.Message.{Message}
@@ -183,11 +183,11 @@ order_from m (event ∷ events) =
 -- the books of every script are in order
 pub order_script : (config : Config) (opening : Book) (events : List Event) → InOrder opening (books_in (script_of config opening events))
 order_script config opening events =
-    let begin : Opening = waits_for config.patience opening in
+    let begin : Opening = waits_for config.patience config.spared opening in
     let goes : GoesOn (Opened begin) (opened begin) = openings_keep begin in
-    let books : books_in (opening_acts opening) ≡ books_of goes.acts = ap (λ (acts : List SessionAct). books_in (acts_for_all acts)) (sym (opened_acts begin) ∙ goes.are) ∙ books_told goes.acts in
-    subst (λ (bs : List Book). InOrder opening bs) (sym (books_in-append (opening_acts opening) (script_from (start config opening) events)))
-    (order-append opening (books_in (opening_acts opening)) (books_in (script_from (start config opening) events)) (subst (λ (bs : List Book). InOrder opening bs) (sym books) goes.in_order)
+    let books : books_in (opening_acts config opening) ≡ books_of goes.acts = ap (λ (acts : List SessionAct). books_in (acts_for_all acts)) (sym (opened_acts begin) ∙ goes.are) ∙ books_told goes.acts in
+    subst (λ (bs : List Book). InOrder opening bs) (sym (books_in-append (opening_acts config opening) (script_from (start config opening) events)))
+    (order-append opening (books_in (opening_acts config opening)) (books_in (script_from (start config opening) events)) (subst (λ (bs : List Book). InOrder opening bs) (sym books) goes.in_order)
     (subst (λ (b : Book). InOrder b (books_in (script_from (start config opening) events))) (sym (ap (last_of opening) books ∙ goes.last)) (order_from (start config opening) events)))
 
 -- every book that is written is of the session that was opened, and has the others as they were

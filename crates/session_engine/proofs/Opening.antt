@@ -5,11 +5,13 @@ use Rattle.std.specs.List.{flat_map}
 use Rattle.owned_lists.specs.declared.commands.Command.{Command}
 use Rattle.checkpoint_records.specs.declared.records.Book.{Book}
 use Rattle.session_model.specs.Books.{issue, opening_moves}
-use Rattle.session_model.specs.Moves.{Agreed, Began, Blamed, Cancelled, Cause, Closed, Committed, Discard, Finished, Gave, History, Move, Opened, Opening, Outside, Over, Printed, Tried, Unset, acts_of as acts_by, all_acts, onto, tried_each, ◌▷◌}
+use Rattle.discard_ledger.specs.Discards.{without_commands}
+use Rattle.session_model.specs.Moves.{waits_for, Agreed, Began, Blamed, Cancelled, Cause, Closed, Committed, Discard, Finished, Gave, History, Move, Opened, Opening, Outside, Over, Printed, Tried, Unset, acts_of as acts_by, all_acts, onto, tried_each, ◌▷◌}
 use Rattle.session_model.specs.Readings as of
 use Rattle.session_model.specs.Rules.{opened}
 use Rattle.session_engine.specs.Acts.{acts_for_all, has_finish}
 use Rattle.session_engine.specs.Machine.{opening_acts}
+use Rattle.session_engine.specs.declared.config.Config.{Config}
 
 -- a book is written, or a command is tried
 abbrev IsOfOpening : Move → Type 0
@@ -39,12 +41,12 @@ tried : (cause : Cause) (commands : List Command) → AreOfOpening (tried_each c
 tried cause [] = tt
 tried cause (command ∷ commands) = (tt, tried cause commands)
 
-issued : (book : Book) (commands : List Command) → AreOfOpening (issue book commands)
-issued book [] = tt
-issued book (command ∷ commands) = both (tried_each Discard (command ∷ commands)) _ (tried Discard (command ∷ commands)) (tt, tt)
+issued : (spared : List Command) (book : Book) (commands : List Command) → AreOfOpening (issue spared book commands)
+issued spared book [] = tt
+issued spared book (command ∷ commands) = both (tried_each Discard (without_commands spared (command ∷ commands))) _ (tried Discard (without_commands spared (command ∷ commands))) (tt, tt)
 
-opening : (book : Book) → AreOfOpening (opening_moves book)
-opening book = (tt, both (issue _ book.pending) _ (issued _ book.pending) (tried _ _))
+opening : (begin : Opening) → AreOfOpening (opening_moves begin)
+opening begin = (tt, both (issue begin.spared _ begin.book.pending) _ (issued begin.spared _ begin.book.pending) (tried _ _))
 
 -- What stays from move to move
 
@@ -78,17 +80,17 @@ pub acts-onto : (moves : List Move) (h : History) → all_acts (onto h moves) �
 acts-onto [] h = sym (append-nil (all_acts h))
 acts-onto (m ∷ moves) h = acts-onto moves (m ▷ h) ∙ append_assoc (all_acts h) (acts_by m) (flat_map acts_by moves)
 
--- what is done as a book is opened, whatever the patience
-pub opened_acts : (begin : Opening) → all_acts (opened begin) ≡ flat_map acts_by (opening_moves begin.book)
-opened_acts begin = acts-onto (opening_moves begin.book) (Opened begin)
+-- what is done as a book is opened
+pub opened_acts : (begin : Opening) → all_acts (opened begin) ≡ flat_map acts_by (opening_moves begin)
+opened_acts begin = acts-onto (opening_moves begin) (Opened begin)
 
 -- nobody is live once a book is opened
 pub opened_live : (begin : Opening) → of.live (opened begin) ≡ []
-opened_live begin = live_all (opening_moves begin.book) (Opened begin) (opening begin.book)
+opened_live begin = live_all (opening_moves begin) (Opened begin) (opening begin)
 
 pub opened_phase : (begin : Opening) (q : ℕ) → of.phase_of q (opened begin) ≡ None
-opened_phase begin q = phase_all q (opening_moves begin.book) (Opened begin) (opening begin.book)
+opened_phase begin q = phase_all q (opening_moves begin) (Opened begin) (opening begin)
 
 -- and the run goes on
-pub opened_unfinished : (book : Book) → has_finish (opening_acts book) ≡ false
-opened_unfinished book = finish_none (opening_moves book) (opening book)
+pub opened_unfinished : (config : Config) (book : Book) → has_finish (opening_acts config book) ≡ false
+opened_unfinished config book = finish_none (opening_moves (waits_for config.patience config.spared book)) (opening (waits_for config.patience config.spared book))

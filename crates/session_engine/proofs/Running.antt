@@ -130,7 +130,7 @@ module _ (config : Config) (opening : Book) where
   start = start_with config opening
 
   abbrev pub opening_acts : List Act
-  opening_acts = opening_acts_of opening
+  opening_acts = opening_acts_of config opening
 
   abbrev pub script : List Event → List Act
   script events = script_with config opening events

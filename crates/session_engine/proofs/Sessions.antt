@@ -186,13 +186,15 @@ module _ (config : Config) (opening : Book) where
       let scripts : script (heard es) ≡ acts = opening_script es deaf in
       record {
         shows = rw deaf shows;
-        unfinished = ap has_finish scripts ∙ opened_unfinished opening;
+        unfinished = ap has_finish scripts ∙ opened_unfinished config opening;
         all_done = done ∙ ap deeds_in (sym scripts);
         in_order = rw deaf (performs.out.going.in_order ∙ (ap (map Did) done ∙ sym (append-nil (map Did (deeds_in acts)))));
         on_script = of.opening_on_script config opening es performs.out.left performs.out.going;
         keeps = opening_keeps current (Ok session.store) es performs;
-        store = λ first before stands. rw scripts (rw performs.leaves.0 at (performs.leaves.1 first before stands));
-        saved = rw scripts performs.leaves.0;
+        store = λ first before stands.
+            subst (λ (xs : List Act). SteadyStands session.store.journal (as_stored (book_after opening xs)) first (before ++ es)) (sym scripts)
+            (subst (λ (b : Book). SteadyStands session.store.journal (as_stored b) first (before ++ es)) performs.leaves.0 (performs.leaves.1 first before stands));
+        saved = performs.leaves.0 ∙ ap (λ (xs : List Act). book_after opening xs) (sym scripts);
         counts = subst (λ (xs : List Act). IsRaised (commits_in xs) (next_generation current) (next_generation session.store.journal)) (sym scripts) performs.counts;
         opens = performs.opens ∙ ap commits_in (sym scripts);
         numbered = rw scripts performs.numbered;
@@ -251,8 +253,9 @@ module _ (config : Config) (opening : Book) where
 
   saved_next : (current : Option Current) (session : Session) (next : Stored) (es ds : List Effect) (event : Event) → StandsFor current session es → Performs session.store (acts_at es event) (Ok next) ds → next.book ≡ book_after opening (script (heard (es ++ Heard event ∷ ds)))
   saved_next current session next es ds event held performs =
-      rw (of.script-more config opening es ds event performs.out.going.deaf held.unfinished, book_after-append opening (script (heard es)) (acts_at es event))
-      (performs.leaves.0 ∙ ap (λ b. book_after b (acts_at es event)) held.saved)
+      performs.leaves.0 ∙ ap (λ b. book_after b (acts_at es event)) held.saved
+      ∙ sym (book_after-append opening (script (heard es)) (acts_at es event))
+      ∙ ap (λ (xs : List Act). book_after opening xs) (sym (of.script-more config opening es ds event performs.out.going.deaf held.unfinished))
 
   store_more : (current : Option Current) (session : Session) (next : Stored) (es ds : List Effect) (event : Event) → StandsFor current session es → Performs session.store (acts_at es event) (Ok next) ds → (first : List ℕ) (before : List Effect) → SteadyStands current (as_stored opening) first before → SteadyStands next.journal (as_stored (book_after opening (script (heard (es ++ Heard event ∷ ds))))) first (before ++ (es ++ Heard event ∷ ds))
   store_more current session next es ds event held performs first before stands =

@@ -147,14 +147,14 @@ through-none [] = refl
 through-none (act ∷ acts) = ap (connections_through acts) (after-none act) ∙ through-none acts
 
 -- the opening is followed
-pub opens : (config : Config) (book : Book) (acts : List SessionAct) (first engine : Engine) → first.cookie ≡ config.cookie → ((q : ℕ) → kept_at first.live q ≡ None) → StandsFor first.manager (opened (waits_for config.patience book)) → Follows acts first engine → Shows all_cut engine (start config book)
+pub opens : (config : Config) (book : Book) (acts : List SessionAct) (first engine : Engine) → first.cookie ≡ config.cookie → ((q : ℕ) → kept_at first.live q ≡ None) → StandsFor first.manager (opened (waits_for config.patience config.spared book)) → Follows acts first engine → Shows all_cut engine (start config book)
 opens config book acts first engine same_cookie none stands follows =
     let none_shown : ShowsLive all_cut first.live [] = record { each = λ q. rw (none q) tt; distinct = tt } in
     record {
       cookie = sym (follows.cookie ∙ same_cookie);
       live = subst (λ (ks : List Connection). ShowsLive all_cut engine.live ks) (through-none acts) (follows.live all_cut [] none_shown);
       stands = rw (follows.manager) stands;
-      agrees = record { numbers = sym (opened_live (waits_for config.patience book)); phases = λ q. ap is_some (opened_phase (waits_for config.patience book) q) };
+      agrees = record { numbers = sym (opened_live (waits_for config.patience config.spared book)); phases = λ q. ap is_some (opened_phase (waits_for config.patience config.spared book) q) };
     }
 
 -- acts that were given before the session was told

@@ -1,5 +1,5 @@
 -- A commit by the journal: an append or a compaction.
-use Rattle.std.proofs.Common.{◌≡◌, arith, ℕ, zero, suc, ◌+◌, ◌<◌, ◌^◌, List, [], ◌∷◌, length, take, Option, None, Some, Ok, Err, refl, sym, subst, inl, inr}
+use Rattle.std.proofs.Common.{◌≡◌, arith, ℕ, zero, suc, ◌<◌, ◌^◌, List, [], length, take, Option, None, Some, Ok, Err, refl, sym, subst, inl, inr}
 use Rattle.std.proofs.lemmas.List.{append-nil}
 use Rattle.std.specs.List.{AllByRecursion}
 use Rattle.sm_world.specs.declared.effects.Effect.{Effect}

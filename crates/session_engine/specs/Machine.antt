@@ -61,12 +61,12 @@ abbrev pub acts_of : Step → List Act
 acts_of step = flat_map act_in step.line
 
 -- what is done as a book is opened
-abbrev pub opening_acts : Book → List Act
-opening_acts book = acts_for_all (flat_map acts_by (opening_moves book))
+abbrev pub opening_acts : Config → Book → List Act
+opening_acts config book = acts_for_all (flat_map acts_by (opening_moves (waits_for config.patience config.spared book)))
 
 -- a run that opens this book, before anything came
 abbrev pub start : Config → Book → Machine
-start config book = record { cookie = config.cookie; connections = []; session = opened (waits_for config.patience book) }
+start config book = record { cookie = config.cookie; connections = []; session = opened (waits_for config.patience config.spared book) }
 
 abbrev pub connection_of : ℕ → List Connection → Option Connection
 connection_of c [] = None
@@ -230,7 +230,7 @@ script_from m (event ∷ events) = acts_of (step m event) ++ (if has_finish (act
 
 -- the opening acts, and those for the events
 abbrev pub script_of : Config → Book → List Event → List Act
-script_of config book events = opening_acts book ++ script_from (start config book) events
+script_of config book events = opening_acts config book ++ script_from (start config book) events
 
 -- what the run shows, in its order: an event came, or a deed was done
 pub data Item : Type 0 where
@@ -243,4 +243,4 @@ run_from m (event ∷ events) = Came event ∷ (map Did (deeds_in (acts_of (step
 
 -- the deeds of the opening, and each event followed by its deeds, up to the end of the run
 abbrev pub run_of : Config → Book → List Event → List Item
-run_of config book events = map Did (deeds_in (opening_acts book)) ++ run_from (start config book) events
+run_of config book events = map Did (deeds_in (opening_acts config book)) ++ run_from (start config book) events

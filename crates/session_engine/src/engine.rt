@@ -50,9 +50,9 @@ impl Engine {
         requires few { length book.others ≤ 7 }
         requires below { book.epoch < 4294967295 }
         ensures shows { IfOk result (λ engine. Shows all_cut engine (start config book)) }
-        ensures acts { IfOk result (λ engine. engine.acts ≡ opening_acts book) }
+        ensures acts { IfOk result (λ engine. engine.acts ≡ opening_acts config book) }
     {
-        let (manager, acts) = Manager::begin(alloc, book, config.patience)?;
+        let (manager, acts) = Manager::begin(alloc, book, config.patience, config.spared)?;
         let mut engine = Engine {
             cookie: config.cookie,
             live: Connections::new(alloc),

@@ -158,7 +158,7 @@ fn open<W: Disk + Links + Spawner + Console>(
     requires few { length book.others ≤ 7 }
     requires below { book.epoch < 4294967295 }
     ensures done { Added (W.outside world.old).told (W.outside world.new).told
-        (Performs store (opening_acts book) (kept result)) }
+        (Performs store (opening_acts config book) (kept result)) }
     ensures shows { IfOk result (λ session. Shows all_cut session.engine (begun config book)) }
     ensures alone { HearsNone (W.outside world.old) (W.outside world.new) result }
 {

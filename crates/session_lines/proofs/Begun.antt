@@ -11,6 +11,7 @@ use Rattle.session_model.specs.Books.{issue, raised}
 use Rattle.session_model.specs.Moves.{Committed, Move, Restart, acts_of, tried_each}
 use Rattle.session_engine.specs.Acts.{acts_for, acts_for_all}
 use Rattle.session_engine.specs.Machine.{opening_acts, start}
+use Rattle.session_engine.specs.declared.config.Config.{Config}
 use Rattle.session_engine.specs.declared.acts.Act.{Act}
 use Rattle.session_lines.specs.Lines.{Does, Seen, line_from}
 use Rattle.session_lines.specs.Opening.{LinesBeginAgain, again}
@@ -29,21 +30,21 @@ shown-again [] = refl
 shown-again (command ∷ commands) = ap (λ (xs : List Seen). again command ∷ xs) (shown-again commands)
 
 -- the moves before them
-abbrev before : Book → List Move
-before book = Committed (raised book) ∷ issue (raised book) book.pending
+abbrev before : Config → Book → List Move
+before config book = Committed (raised book) ∷ issue config.spared (raised book) book.pending
 
-opening-shown : (book : Book) → map Does (opening_acts book) ≡ shown (before book) ++ map again (opening_restarts book.entries)
-opening-shown book =
-    shown-append (before book) (tried_each Restart (opening_restarts book.entries))
-    ∙ ap (λ (xs : List Seen). shown (before book) ++ xs) (shown-again (opening_restarts book.entries))
+opening-shown : (config : Config) (book : Book) → map Does (opening_acts config book) ≡ shown (before config book) ++ map again (opening_restarts book.entries)
+opening-shown config book =
+    shown-append (before config book) (tried_each Restart (opening_restarts book.entries))
+    ∙ ap (λ (xs : List Seen). shown (before config book) ++ xs) (shown-again (opening_restarts book.entries))
 
 pub lines-begin : LinesBeginAgain
 lines-begin config book events =
     let again_all : List Seen = map again (opening_restarts book.entries) in
     let later : List Seen = line_from (start config book) events in
     record {
-      first = shown (before book);
+      first = shown (before config book);
       later = later;
-      parts = sym (append_assoc (shown (before book)) again_all later) ∙ ap (λ (xs : List Seen). xs ++ later) (sym (opening-shown book));
-      deaf = events-does (acts_for_all (flat_map acts_of (before book)));
+      parts = sym (append_assoc (shown (before config book)) again_all later) ∙ ap (λ (xs : List Seen). xs ++ later) (sym (opening-shown config book));
+      deaf = events-does (acts_for_all (flat_map acts_of (before config book)));
     }

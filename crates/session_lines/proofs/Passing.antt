@@ -123,7 +123,7 @@ deeds-line config book events = ap (λ (acts : List Act). deeds_in acts) (acts-l
 done-first : (config : Config) (book : Book) (done : List Deed) → IsPrefix done (deeds_in (script_of config book [])) → IsDone config book [] done
 done-first config book done (rest, e) =
     let cut : Cut (line config book []) done = cut-at (line config book []) done rest (e ∙ sym (deeds-line config book [])) in
-    let none : events_in (line config book []) ≡ [] = flat_map-append event_of (map Does (opening_acts book)) [] ∙ ap (λ (xs : List Event). xs ++ []) (events-does (opening_acts book)) in
+    let none : events_in (line config book []) ≡ [] = flat_map-append event_of (map Does (opening_acts config book)) [] ∙ ap (λ (xs : List Event). xs ++ []) (events-does (opening_acts config book)) in
     record { front = cut.front; later = cut.later; parts = cut.parts; came = cut-deaf (line config book []) done none cut; same = cut.same; next = cut.next }
 
 pub left-same : (xs ys zs : List Deed) → xs ++ ys ≡ xs ++ zs → ys ≡ zs

@@ -14,10 +14,10 @@ use Rattle.xsmp_messages.specs.Reading.{decode_at}
 use Rattle.xsmp_messages.specs.declared.message.XsmpMessage.{XsmpMessage}
 use Rattle.xsmp_messages.specs.declared.message.XsmpMessage.TheVariants.{Error as XsmpError, SetProperties}
 use Rattle.ice_framing.specs.Parts.{Part, TooMuch, Whole}
-use Rattle.session_engine.specs.declared.acts.Act.TheVariants.{Commit, Finish, Print, Say, Shut}
+use Rattle.session_engine.specs.declared.acts.Act.TheVariants.{Commit, Finish, Print, Say, Shut, Start}
 use Rattle.protocol_messages.specs.declared.message.Message.{Message}
 use Rattle.protocol_messages.specs.declared.message.Message.TheVariants.{Ice, Xsmp}
-use Rattle.session_model.specs.declared.events.Act.TheVariants.{Commit as Commits, Say as SaysXsmp}
+use Rattle.session_model.specs.declared.events.Act.TheVariants.{Commit as Commits, Say as SaysXsmp, Start as Starts}
 use Rattle.session_notes.specs.Notes.{Did, Gone, Heard, Note, Ordered}
 use Rattle.session_notes.specs.Keeping.{book_in, is_discarded, sets_discard}
 use Rattle.session_notes.specs.Watching.{has_token}
@@ -32,19 +32,20 @@ abbrev pub Kept : Book → List Note → Type 0
 Kept book n = OneHas n × (IdsHold book n × (DiscardsHold book n × KeptHolds book n))
 
 -- what an entry asks of the notes before it
-abbrev pub Due : Book → List Note → Seen → Type 0
-Due book n (Does (Say c (Xsmp message))) = IsDue n (Did (SaysXsmp c message)) × IsOwed book n (Did (SaysXsmp c message))
-Due book n (Does (Commit written)) = IsOwed book n (Did (Commits written))
-Due book n entry = Unit {0}
+abbrev pub Due : List Command → Book → List Note → Seen → Type 0
+Due spared book n (Does (Say c (Xsmp message))) = IsDue n (Did (SaysXsmp c message)) × IsOwed spared book n (Did (SaysXsmp c message))
+Due spared book n (Does (Commit written)) = IsOwed spared book n (Did (Commits written))
+Due spared book n (Does (Start reason command)) = IsOwed spared book n (Did (Starts reason command))
+Due spared book n entry = Unit {0}
 
 -- it is so at each point of a line, which stands the latest first
-abbrev pub Holds : Book → List Seen → Type 0
-Holds book [] = Kept book []
-Holds book (entry ∷ seen) = Kept book (noted (entry ∷ seen)) × (Due book (noted seen) entry × Holds book seen)
+abbrev pub Holds : List Command → Book → List Seen → Type 0
+Holds spared book [] = Kept book []
+Holds spared book (entry ∷ seen) = Kept book (noted (entry ∷ seen)) × (Due spared book (noted seen) entry × Holds spared book seen)
 
-pub kept-top : (book : Book) (seen : List Seen) → Holds book seen → Kept book (noted seen)
-kept-top book [] h = h
-kept-top book (entry ∷ seen) h = h.0
+pub kept-top : (spared : List Command) (book : Book) (seen : List Seen) → Holds spared book seen → Kept book (noted seen)
+kept-top spared book [] h = h
+kept-top spared book (entry ∷ seen) h = h.0
 
 -- What notes keep
 
@@ -76,37 +77,37 @@ kept-cond book true n o k l = k
 kept-cond book false n o k l = l
 
 -- a message of which nothing is noted
-kept-said : (book : Book) (c : ℕ) (message : Message) (seen : List Seen) → given_in c message ≡ [] → Holds book seen → Kept book (noted (Does (Say c message) ∷ seen))
-kept-said book c message [] e h = subst (λ (xs : List Note). Kept book (xs ++ [])) (sym e) h
-kept-said book c message (Took d part ∷ seen) e h =
-    kept-cond book (is_error message && d == c) (noted seen) (given_in c message ++ (heard_in d part ++ noted seen)) (kept-top book seen h.1.1)
+kept-said : (spared : List Command) (book : Book) (c : ℕ) (message : Message) (seen : List Seen) → given_in c message ≡ [] → Holds spared book seen → Kept book (noted (Does (Say c message) ∷ seen))
+kept-said spared book c message [] e h = subst (λ (xs : List Note). Kept book (xs ++ [])) (sym e) h
+kept-said spared book c message (Took d part ∷ seen) e h =
+    kept-cond book (is_error message && d == c) (noted seen) (given_in c message ++ (heard_in d part ++ noted seen)) (kept-top spared book seen h.1.1)
     (subst (λ (xs : List Note). Kept book (xs ++ (heard_in d part ++ noted seen))) (sym e) h.0)
-kept-said book c message (entry ∷ seen) e h = subst (λ (xs : List Note). Kept book (xs ++ noted (entry ∷ seen))) (sym e) h.0
+kept-said spared book c message (entry ∷ seen) e h = subst (λ (xs : List Note). Kept book (xs ++ noted (entry ∷ seen))) (sym e) h.0
 
 -- One entry more
 
-pub holds-comes : (book : Book) (event : Event) (seen : List Seen) → Holds book seen → Holds book (Comes event ∷ seen)
-holds-comes book (HasGone c) seen h = (kept-cond book (is_open c seen) (Gone c ∷ noted seen) (noted seen) (kept-gone book c (noted seen) (kept-top book seen h)) (kept-top book seen h), (tt, h))
-holds-comes book (Operator order) seen h = (kept-ordered book order (noted seen) (kept-top book seen h), (tt, h))
-holds-comes book event seen h = (kept-top book seen h, (tt, h))
+pub holds-comes : (spared : List Command) (book : Book) (event : Event) (seen : List Seen) → Holds spared book seen → Holds spared book (Comes event ∷ seen)
+holds-comes spared book (HasGone c) seen h = (kept-cond book (is_open c seen) (Gone c ∷ noted seen) (noted seen) (kept-gone book c (noted seen) (kept-top spared book seen h)) (kept-top spared book seen h), (tt, h))
+holds-comes spared book (Operator order) seen h = (kept-ordered book order (noted seen) (kept-top spared book seen h), (tt, h))
+holds-comes spared book event seen h = (kept-top spared book seen h, (tt, h))
 
-pub holds-took : (book : Book) (c : ℕ) (part : Part) (seen : List Seen) → Holds book seen → Holds book (Took c part ∷ seen)
-holds-took book c part seen h = (kept-heard book c part (noted seen) (kept-top book seen h), (tt, h))
+pub holds-took : (spared : List Command) (book : Book) (c : ℕ) (part : Part) (seen : List Seen) → Holds spared book seen → Holds spared book (Took c part ∷ seen)
+holds-took spared book c part seen h = (kept-heard book c part (noted seen) (kept-top spared book seen h), (tt, h))
 
-pub holds-ice : (book : Book) (c : ℕ) (message : IceMessage) (seen : List Seen) → Holds book seen → Holds book (Does (Say c (Ice message)) ∷ seen)
-holds-ice book c message seen h = (kept-said book c (Ice message) seen refl h, (tt, h))
+pub holds-ice : (spared : List Command) (book : Book) (c : ℕ) (message : IceMessage) (seen : List Seen) → Holds spared book seen → Holds spared book (Does (Say c (Ice message)) ∷ seen)
+holds-ice spared book c message seen h = (kept-said spared book c (Ice message) seen refl h, (tt, h))
 
-pub holds-blamed : (book : Book) (c : ℕ) (error : ErrorFields) (seen : List Seen) → Holds book seen → Holds book (Does (Say c (Xsmp (XsmpError error))) ∷ seen)
-holds-blamed book c error seen h = (kept-said book c (Xsmp (XsmpError error)) seen refl h, ((tt, tt), h))
+pub holds-blamed : (spared : List Command) (book : Book) (c : ℕ) (error : ErrorFields) (seen : List Seen) → Holds spared book seen → Holds spared book (Does (Say c (Xsmp (XsmpError error))) ∷ seen)
+holds-blamed spared book c error seen h = (kept-said spared book c (Xsmp (XsmpError error)) seen refl h, ((tt, tt), h))
 
-pub holds-shut : (book : Book) (c : ℕ) (seen : List Seen) → Holds book seen → Holds book (Does (Shut c) ∷ seen)
-holds-shut book c seen h = (kept-gone book c (noted seen) (kept-top book seen h), (tt, h))
+pub holds-shut : (spared : List Command) (book : Book) (c : ℕ) (seen : List Seen) → Holds spared book seen → Holds spared book (Does (Shut c) ∷ seen)
+holds-shut spared book c seen h = (kept-gone book c (noted seen) (kept-top spared book seen h), (tt, h))
 
-pub holds-print : (book : Book) (text : List ℕ) (seen : List Seen) → Holds book seen → Holds book (Does (Print text) ∷ seen)
-holds-print book text seen h = (kept-top book seen h, (tt, h))
+pub holds-print : (spared : List Command) (book : Book) (text : List ℕ) (seen : List Seen) → Holds spared book seen → Holds spared book (Does (Print text) ∷ seen)
+holds-print spared book text seen h = (kept-top spared book seen h, (tt, h))
 
-pub holds-finish : (book : Book) (seen : List Seen) → Holds book seen → Holds book (Does Finish ∷ seen)
-holds-finish book seen h = (kept-top book seen h, (tt, h))
+pub holds-finish : (spared : List Command) (book : Book) (seen : List Seen) → Holds spared book seen → Holds spared book (Does Finish ∷ seen)
+holds-finish spared book seen h = (kept-top spared book seen h, (tt, h))
 
 -- Lines
 
@@ -124,6 +125,6 @@ along-is [] seen = refl
 along-is (x ∷ xs) seen = along-is xs (x ∷ seen) ∙ sym (append_assoc (reverse xs) (x ∷ []) seen) ∙ ap (λ (ys : List Seen). ys ++ seen) (sym (reverse-append (x ∷ []) xs))
 
 -- the points of a line are those of each of its fronts
-pub holds-front : (book : Book) (later seen : List Seen) → Holds book (later ++ seen) → Holds book seen
-holds-front book [] seen h = h
-holds-front book (entry ∷ later) seen h = holds-front book later seen h.1.1
+pub holds-front : (spared : List Command) (book : Book) (later seen : List Seen) → Holds spared book (later ++ seen) → Holds spared book seen
+holds-front spared book [] seen h = h
+holds-front spared book (entry ∷ later) seen h = holds-front spared book later seen h.1.1

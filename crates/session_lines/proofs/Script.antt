@@ -40,8 +40,8 @@ acts-from m (event ∷ events) =
 
 pub acts-line : (config : Config) (book : Book) (events : List Event) → acts_in (line config book events) ≡ script_of config book events
 acts-line config book events =
-    flat_map-append act_of (map Does (opening_acts book)) (line_from (start config book) events) ∙ ap (λ (xs : List Act). xs ++ acts_in (line_from (start config book) events)) (acts-does (opening_acts book))
-    ∙ ap (λ (xs : List Act). opening_acts book ++ xs) (acts-from (start config book) events)
+    flat_map-append act_of (map Does (opening_acts config book)) (line_from (start config book) events) ∙ ap (λ (xs : List Act). xs ++ acts_in (line_from (start config book) events)) (acts-does (opening_acts config book))
+    ∙ ap (λ (xs : List Act). opening_acts config book ++ xs) (acts-from (start config book) events)
 
 -- Finish
 
@@ -54,7 +54,7 @@ finish-parts : (acts rest : List Act) → has_finish (acts ++ (if◌then◌else�
 finish-parts acts rest e = finish-by (has_finish acts) rest (sym (has_finish-append acts (if◌then◌else◌ {A = List Act} (has_finish acts) [] rest)) ∙ e)
 
 later-unfinished : (config : Config) (book : Book) (events : List Event) → has_finish (script_of config book events) ≡ false → has_finish (script_from (start config book) events) ≡ false
-later-unfinished config book events e = second_by (has_finish (opening_acts book)) (has_finish (script_from (start config book) events)) (sym (has_finish-append (opening_acts book) (script_from (start config book) events)) ∙ e)
+later-unfinished config book events e = second_by (has_finish (opening_acts config book)) (has_finish (script_from (start config book) events)) (sym (has_finish-append (opening_acts config book) (script_from (start config book) events)) ∙ e)
 
 -- Events
 
@@ -84,7 +84,7 @@ events-from m (event ∷ events) e =
 
 pub events-line : (config : Config) (book : Book) (events : List Event) → has_finish (script_of config book events) ≡ false → events_in (line config book events) ≡ events
 events-line config book events e =
-    flat_map-append event_of (map Does (opening_acts book)) (line_from (start config book) events) ∙ ap (λ (xs : List Event). xs ++ events_in (line_from (start config book) events)) (events-does (opening_acts book))
+    flat_map-append event_of (map Does (opening_acts config book)) (line_from (start config book) events) ∙ ap (λ (xs : List Event). xs ++ events_in (line_from (start config book) events)) (events-does (opening_acts config book))
     ∙ events-from (start config book) events (later-unfinished config book events e)
 
 -- One event more
@@ -108,5 +108,5 @@ line_from-more m (first ∷ events) event e =
 
 pub line-more : (config : Config) (book : Book) (events : List Event) (event : Event) → has_finish (script_of config book events) ≡ false → line config book (events ++ event ∷ []) ≡ line config book events ++ step_line (after_all (start config book) events) event
 line-more config book events event e =
-    ap (λ (xs : List Seen). map Does (opening_acts book) ++ xs) (line_from-more (start config book) events event (later-unfinished config book events e))
-    ∙ sym (append_assoc (map Does (opening_acts book)) (line_from (start config book) events) (step_line (after_all (start config book) events) event))
+    ap (λ (xs : List Seen). map Does (opening_acts config book) ++ xs) (line_from-more (start config book) events event (later-unfinished config book events e))
+    ∙ sym (append_assoc (map Does (opening_acts config book)) (line_from (start config book) events) (step_line (after_all (start config book) events) event))

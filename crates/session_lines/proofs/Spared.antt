@@ -10,7 +10,7 @@ use Rattle.checkpoint_records.specs.Rules.{client_id}
 use Rattle.round_agreement.specs.Agreement.{Agreement, two_ready, agreed, deserted, conns_of}
 use Rattle.interact_queue.specs.Queue.{is_in, next_holder}
 use Rattle.restart_plan.specs.Restarts.{respawn}
-use Rattle.discard_ledger.specs.Discards.{issuable}
+use Rattle.discard_ledger.specs.Discards.{issuable, without_commands}
 use Rattle.xsmp_properties.specs.Tables.{set_all}
 use Rattle.xsmp_messages.specs.declared.message.XsmpMessage.{XsmpMessage}
 use Rattle.xsmp_messages.specs.declared.message.XsmpMessage.TheVariants.{Error, RegisterClient, RegisterClientReply, SaveYourselfRequest, InteractRequest, InteractDone, SaveYourselfDone, Die, ShutdownCancelled, ConnectionClosed, SetProperties, DeleteProperties, GetProperties, GetPropertiesReply, SaveYourselfPhase2Request, SaveYourselfPhase2, SaveComplete}
@@ -67,10 +67,10 @@ sparing-tried : (d : ℕ) (cause : Cause) (commands : List Command) (h : History
 sparing-tried d cause [] h = tt
 sparing-tried d cause (command ∷ commands) h = (tt, sparing-tried d cause commands (Tried cause command ▷ h))
 
-sparing-issue : (d : ℕ) (book : Book) (commands : List Command) (h : History) → AllSparing d (issue book commands) h
-sparing-issue d book [] h = tt
-sparing-issue d book (command ∷ commands) h =
-    (tt, sparing-append d (tried_each Discard commands) _ (Tried Discard command ▷ h) (sparing-tried d Discard commands (Tried Discard command ▷ h)) (tt, tt))
+sparing-issue : (d : ℕ) (spared : List Command) (book : Book) (commands : List Command) (h : History) → AllSparing d (issue spared book commands) h
+sparing-issue d spared book [] h = tt
+sparing-issue d spared book (command ∷ commands) h =
+    sparing-append d (tried_each Discard (without_commands spared (command ∷ commands))) _ h (sparing-tried d Discard (without_commands spared (command ∷ commands)) h) (tt, tt)
 
 -- A logout is agreed
 
@@ -131,9 +131,9 @@ sparing-agreement d r h e =
       tt,
       (
         tt,
-        sparing-append d tail (discarded (reading h).clients book) (Agreed ▷ Committed book ▷ h)
+        sparing-append d tail (discarded (reading h) book) (Agreed ▷ Committed book ▷ h)
             (sparing-completed d r.wanted.shutdown (reading h).clients (round_now r h) book (Agreed ▷ Committed book ▷ h) refl (ends-session r h e))
-            (sparing-issue d book (issuable (standing (reading h).clients) book.pending) (onto (Agreed ▷ Committed book ▷ h) tail)),
+            (sparing-issue d (reading h).store.spared book (issuable (standing (reading h).clients) book.pending) (onto (Agreed ▷ Committed book ▷ h) tail)),
       ),
     )
 

@@ -16,7 +16,8 @@ use Rattle.xsmp_messages.specs.declared.message.XsmpMessage.TheVariants.{Interac
 use Rattle.session_model.specs.Books.{is_eligible}
 use Rattle.session_engine.specs.Acts.{has_finish}
 use Rattle.session_engine.specs.Machine.{script_of}
-use Rattle.session_engine.specs.declared.acts.Act.TheVariants.{Commit, Say}
+use Rattle.session_engine.specs.declared.acts.Act.TheVariants.{Commit, Say, Start}
+use Rattle.session_model.specs.declared.events.Reason.TheVariants.{Discard}
 use Rattle.protocol_messages.specs.declared.message.Message.TheVariants.{Xsmp}
 use Rattle.session_notes.specs.Keeping.{IsOfRun, book_in, id_in, is_discarded, is_newcomer, is_started, new_ids, snapshot_in}
 use Rattle.session_notes.specs.Kept.{Stands, kept_in}
@@ -100,14 +101,18 @@ CompletedSavesStand book seen =
     → Contains (book_in book (notes before)).entries (record { id = id; table = table })
 
 -- a command that was pending stayed pending in the next book, or this book names it, or it was started between the two to discard
--- a state
-abbrev pub PendingIsNotLost : Book → List Seen → Type 0
-PendingIsNotLost book seen =
+-- a state, or it is spared
+abbrev pub PendingIsNotLost : List Command → Book → List Seen → Type 0
+PendingIsNotLost spared book seen =
     (written : Book) (command : Command) (before after : List Seen) → before ++ Does (Commit written) ∷ after ≡ seen → is_among command (book_in book (notes before)).pending ≡ true
-    → (is_among command written.pending || names written command || is_started command (notes before)) ≡ true
+    → (is_among command written.pending || names written command || is_started command (notes before) || is_among command spared) ≡ true
+
+-- no command that is spared is started to discard a state
+abbrev pub SparedIsNotStarted : List Command → Book → List Seen → Type 0
+SparedIsNotStarted spared book seen = (command : Command) (before after : List Seen) → before ++ Does (Start Discard command) ∷ after ≡ seen → is_among command spared ≡ false
 
 -- all of these laws
-pub record KeepsLaws (book : Book) (seen : List Seen) : Type 0 where
+pub record KeepsLaws (spared : List Command) (book : Book) (seen : List Seen) : Type 0 where
   pub one_has_the_token : OneHasTheToken seen
   pub the_first_is_served : TheFirstIsServed seen
   pub the_second_phase_waits : TheSecondPhaseWaits seen
@@ -118,10 +123,15 @@ pub record KeepsLaws (book : Book) (seen : List Seen) : Type 0 where
   pub entries_were_saved : EntriesWereSaved book seen
   pub others_stay : OthersStay book seen
   pub discarded_states_are_not_named : DiscardedStatesAreNotNamed book seen
-  pub pending_is_not_lost : PendingIsNotLost book seen
+  pub pending_is_not_lost : PendingIsNotLost spared book seen
+  pub spared_is_not_started : SparedIsNotStarted spared book seen
   pub saves_are_kept : SavesAreKept book seen
   pub completed_saves_stand : CompletedSavesStand book seen
 
 -- this holds of each front of every line
 abbrev pub Always : (Book → List Seen → Type 0) → Type 0
 Always Holds = (config : Config) (book : Book) (seen : List Seen) → IsSeen config book seen → Holds book seen
+
+-- ... whatever is spared in its run
+abbrev pub AlwaysWith : (List Command → Book → List Seen → Type 0) → Type 0
+AlwaysWith Holds = (config : Config) (book : Book) (seen : List Seen) → IsSeen config book seen → Holds config.spared book seen

@@ -40,7 +40,7 @@ line_from m (event ∷ events) = Comes event ∷ (map seen_of (step m event).lin
 
 -- all that is seen of a run, the oldest first: the opening acts, and then the events with what they bring
 abbrev pub line : Config → Book → List Event → List Seen
-line config book events = map Does (opening_acts book) ++ line_from (start config book) events
+line config book events = map Does (opening_acts config book) ++ line_from (start config book) events
 
 -- the events among what is seen
 abbrev pub event_of : Seen → List Event

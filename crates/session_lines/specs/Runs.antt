@@ -34,7 +34,7 @@ WhatWasDoneIsAFront = (config : Config) (book : Book) (effects : List Effect) �
 -- what was done of a run up to here, and that it keeps the laws
 pub record IsLawful (config : Config) (book : Book) (effects : List Effect) : Type 0 where
   pub done : IsDone config book (heard effects) (deeds effects)
-  pub laws : KeepsLaws book done.front
+  pub laws : KeepsLaws config.spared book done.front
 
 -- it is so at each point of a run
 abbrev pub IsAlwaysLawful : Config → Book → List Effect → Type 0

@@ -1,4 +1,4 @@
-ghost use Rattle.session_lines.specs.Laws.{AllActsAreSeen, AllEventsAreSeen, Always, OneHasTheToken, TheFirstIsServed, TheSecondPhaseWaits, NewIdsAreOfTheRun, NewIdsDiffer, NewIdsAreFresh, EntriesWereSaved, OthersStay, DiscardedStatesAreNotNamed, PendingIsNotLost, SavesAreKept, CompletedSavesStand, OldIdsAreRecorded};
+ghost use Rattle.session_lines.specs.Laws.{AllActsAreSeen, AllEventsAreSeen, Always, AlwaysWith, OneHasTheToken, TheFirstIsServed, TheSecondPhaseWaits, NewIdsAreOfTheRun, NewIdsDiffer, NewIdsAreFresh, EntriesWereSaved, OthersStay, DiscardedStatesAreNotNamed, PendingIsNotLost, SparedIsNotStarted, SavesAreKept, CompletedSavesStand, OldIdsAreRecorded};
 ghost use Rattle.session_lines.specs.Runs.{WhatWasDoneIsAFront, EveryRunKeepsTheLaws};
 ghost use Rattle.session_lines.specs.Opening.{LinesBeginAgain};
 ghost use Rattle.session_lines.specs.Others.{NotesOfOthersStay, OthersAreLeftAlone};
@@ -67,10 +67,15 @@ pub fn discarded_states_are_not_named()
     ensures { Always DiscardedStatesAreNotNamed }
 {}
 
-/// Does nothing: its contract is a law of each front of every line. What is pending stays so, is named by the next book, or was
-/// started between.
+/// Does nothing: its contract is a law of each front of every line. What is pending stays so, is named by the next book, was started
+/// between, or is spared.
 pub fn pending_is_not_lost()
-    ensures { Always PendingIsNotLost }
+    ensures { AlwaysWith PendingIsNotLost }
+{}
+
+/// Does nothing: its contract is a law of each front of every line. No command that is spared is started to discard a state.
+pub fn spared_is_not_started()
+    ensures { AlwaysWith SparedIsNotStarted }
 {}
 
 /// Does nothing: its contract is a law of every run. At each point what was done is a front of the line of what was heard.

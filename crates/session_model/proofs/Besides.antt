@@ -52,8 +52,8 @@ module _ (book : Book) where
   wide : IsWide (IsBeside book)
   wide = record { respawned = λ id command. tt; resigned = λ command. tt; closed = λ c. tt; printed = λ text. tt }
 
-  issues : (written : Book) (commands : List Command) → (written.name ≡ book.name) × (written.others ≡ book.others) → AllBeside (issue written commands)
-  issues written commands b = every-issue (IsBeside book) written commands (λ command. tt) b
+  issues : (spared : List Command) (written : Book) (commands : List Command) → (written.name ≡ book.name) × (written.others ≡ book.others) → AllBeside (issue spared written commands)
+  issues spared written commands b = every-issue (IsBeside book) spared written commands (λ command. tt) b
 
   -- Rules
 
@@ -64,7 +64,7 @@ module _ (book : Book) where
     began = λ conns wanted. tt;
     over = tt;
     agreed = tt;
-    written = λ round. ((s.name, s.others), issues (next_book (reading h) round) (issuable (standing (reading h).clients) (next_book (reading h) round).pending) (s.name, s.others));
+    written = λ round. ((s.name, s.others), issues (reading h).store.spared (next_book (reading h) round) (issuable (standing (reading h).clients) (next_book (reading h) round).pending) (s.name, s.others));
   }
 
   stays-rule : (h : History) → Stays book h → Stays book (onto h (rule (reading h)))
@@ -113,7 +113,7 @@ module _ (book : Book) where
   suffices h Cancel s = called (of.round h)
   suffices h (Forget id) s = (
     (s.name, s.others),
-    issues (book_forgetting (reading h).store id) (issuable (standing (reading h).clients) (book_forgetting (reading h).store id).pending) (s.name, s.others),
+    issues (reading h).store.spared (book_forgetting (reading h).store id) (issuable (standing (reading h).clients) (book_forgetting (reading h).store id).pending) (s.name, s.others),
   )
   suffices h order s = tt
 
@@ -136,9 +136,9 @@ module _ (book : Book) where
 
 stays-opened : (opening : Opening) → Stays opening.book (opened opening)
 stays-opened opening =
-    stays-onto opening.book (opening_moves opening.book) (Opened opening) (
+    stays-onto opening.book (opening_moves opening) (Opened opening) (
       (refl, refl),
-      every-append (IsBeside opening.book) (issue (raised opening.book) opening.book.pending) (tried_each Restart (opening_restarts opening.book.entries)) (issues opening.book (raised opening.book) opening.book.pending (refl, refl))
+      every-append (IsBeside opening.book) (issue opening.spared (raised opening.book) opening.book.pending) (tried_each Restart (opening_restarts opening.book.entries)) (issues opening.book opening.spared (raised opening.book) opening.book.pending (refl, refl))
           (every-tried (IsBeside opening.book) Restart (opening_restarts opening.book.entries) (λ command. tt)),
     ) (record { name = refl; others = refl; each = tt })
 

@@ -4,7 +4,7 @@ use Rattle.std.specs.Str.{is_utf8, chars}
 use Rattle.std.specs.Fmt.{digits}
 use Rattle.hex.specs.Hex.{encode_with}
 use lib.Utf8.{encode}
-use Rattle.session_model.specs.Examples.{ANewClientSaves, AnUnknownIdIsRefused, ALongIdIsShownInPart, PropertiesAreKept, AFullTableIsRefused, ThereIsRoomFor64, ACheckpointGoesOn, ACheckpointWaitsForAll, TheTokenGoesOn, TheTokenIsHeldByOne, TheTokenIsGivenBack, OnlyErrorsAreAllowed, AShutdownIsCancelled, AnEmptySessionEnds, OrdersAnswer, AnOldStateIsDiscarded, ExpectedEntriesStay, TheRequestTellsWhoIsNew, ASessionIsTakenUp, ASilentClientIsShut, TalkingIsNoSilence, ADebtEndsWithPatience, TwoAreShutAtOnce, WithoutPatienceNobodyIsShut}
+use Rattle.session_model.specs.Examples.{ANewClientSaves, AnUnknownIdIsRefused, ALongIdIsShownInPart, PropertiesAreKept, AFullTableIsRefused, ThereIsRoomFor64, ACheckpointGoesOn, ACheckpointWaitsForAll, TheTokenGoesOn, TheTokenIsHeldByOne, TheTokenIsGivenBack, OnlyErrorsAreAllowed, AShutdownIsCancelled, AnEmptySessionEnds, OrdersAnswer, AnOldStateIsDiscarded, ASparedStateStays, ASparedStateStaysAtAnOpening, ExpectedEntriesStay, TheRequestTellsWhoIsNew, ASessionIsTakenUp, ASilentClientIsShut, TalkingIsNoSilence, ADebtEndsWithPatience, TwoAreShutAtOnce, WithoutPatienceNobodyIsShut}
 
 pub a_new_client_saves : ANewClientSaves
 unfolding encode_with is_utf8 chars encode digits
@@ -69,6 +69,14 @@ orders_answer = refl
 pub an_old_state_is_discarded : AnOldStateIsDiscarded
 unfolding encode_with is_utf8 chars encode digits
 an_old_state_is_discarded = refl
+
+pub a_spared_state_stays : ASparedStateStays
+unfolding encode_with is_utf8 chars encode digits
+a_spared_state_stays = refl
+
+pub a_spared_state_stays_at_an_opening : ASparedStateStaysAtAnOpening
+unfolding encode_with is_utf8 chars encode digits
+a_spared_state_stays_at_an_opening = refl
 
 pub expected_entries_stay : ExpectedEntriesStay
 unfolding encode_with is_utf8 chars encode digits

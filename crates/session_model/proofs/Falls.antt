@@ -66,8 +66,8 @@ pub silent-all : (moves : List Move) (h : History) → AllSilent moves → Same 
 silent-all [] h e = same-self h
 silent-all (m ∷ moves) h e = same-two h (m ▷ h) (onto (m ▷ h) moves) (silent-one m h e.0) (silent-all moves (m ▷ h) e.1)
 
-pub silent-issue : (book : Book) (commands : List Command) → AllSilent (issue book commands)
-silent-issue book commands = every-issue IsSilent book commands (λ command. tt) tt
+pub silent-issue : (spared : List Command) (book : Book) (commands : List Command) → AllSilent (issue spared book commands)
+silent-issue spared book commands = every-issue IsSilent spared book commands (λ command. tt) tt
 
 -- An agreement
 
@@ -204,14 +204,14 @@ peace-completed true book h round g n = peace-ended book h g
 peace-completed false book h round g n = peace-complete (conns_of round.members) book h n
 
 peace-agreed : (book : Book) (h : History) (round : Agreement) → Good h → token_part (next_holder (of.is_held h) (of.waiting h)) ≡ 0
-    → AtPeace (length (of.waits h)) (onto h (agreement_with (reading h).clients round book))
+    → AtPeace (length (of.waits h)) (onto h (agreement_with (reading h) round book))
 peace-agreed book h round g n =
     let done : List Move = completed round.wanted.shutdown (reading h).clients round book in
-    let k : AtPeace (length (of.waits h)) (onto (onto (closing book h) done) (discarded (reading h).clients book)) =
-    peace-same (length (of.waits h)) (onto (closing book h) done) (onto (onto (closing book h) done) (discarded (reading h).clients book))
-    (silent-all (discarded (reading h).clients book) (onto (closing book h) done) (silent-issue book (issuable (standing (reading h).clients) book.pending)))
+    let k : AtPeace (length (of.waits h)) (onto (onto (closing book h) done) (discarded (reading h) book)) =
+    peace-same (length (of.waits h)) (onto (closing book h) done) (onto (onto (closing book h) done) (discarded (reading h) book))
+    (silent-all (discarded (reading h) book) (onto (closing book h) done) (silent-issue (reading h).store.spared book (issuable (standing (reading h).clients) book.pending)))
     (peace-completed round.wanted.shutdown book h round g n) in
-    subst (λ (k : History). AtPeace (length (of.waits h)) k) (sym (onto-append (closing book h) done (discarded (reading h).clients book))) k
+    subst (λ (k : History). AtPeace (length (of.waits h)) k) (sym (onto-append (closing book h) done (discarded (reading h) book))) k
 
 pub no-round : (h : History) → of.running h ≡ None → round_part (of.round h) ≡ 0
 no-round h e = ap (λ (o : Option of.Begun). round_part (of.course o (rows_now h))) e

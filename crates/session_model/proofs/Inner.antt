@@ -45,4 +45,4 @@ module _ (P : History → Type 0) (keeps : (m : Move) (h : History) → IsInner 
 
   -- and so it holds once a book is opened
   pub kept-opening : (opening : Opening) → P (Opened opening) → P (opened opening)
-  kept-opening opening p = kept-onto (opening_moves opening.book) (Opened opening) (all-inner (opening_moves opening.book) (own-opening opening.book)) p
+  kept-opening opening p = kept-onto (opening_moves opening) (Opened opening) (all-inner (opening_moves opening) (own-opening opening)) p

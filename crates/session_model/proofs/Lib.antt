@@ -32,4 +32,5 @@ pub mod WholeReply
 pub mod Own
 pub mod Inner
 pub mod Besides
+pub mod Sparing
 pub mod Silent

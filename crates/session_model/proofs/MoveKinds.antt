@@ -19,7 +19,7 @@ use Rattle.session_model.specs.Errors.{bad_state}
 use Rattle.session_model.specs.declared.events.Arrival.{Arrival}
 use Rattle.session_model.specs.declared.waits.Wait.{Wait}
 use Rattle.session_model.specs.Tables.{entry_of}
-use Rattle.session_model.specs.Moves.{Move, Cause, Gave, Blamed, Closed, Began, Over, Agreed, Cancelled, Tried, Committed, Printed, Discard, End, Resign, Respawn, Restart, gave_each, tried_each}
+use Rattle.session_model.specs.Moves.{Move, Cause, Gave, Blamed, Closed, Began, Opening, Over, Agreed, Cancelled, Tried, Committed, Printed, Discard, End, Resign, Respawn, Restart, gave_each, tried_each}
 use Rattle.session_model.specs.Reading.{Reading, client_of, wanted_in}
 use Rattle.session_model.specs.Books.{book_forgetting, command_anyway, discarded, issue, next_book, opening_moves, raised}
 use Rattle.session_model.specs.Replies.{or_bad_state, respawn_moves, entry_respawn, id_respawn, respawned, depart, called_off, resigned, forgotten, forget_one, forget, ordered}
@@ -58,10 +58,11 @@ module _ (P : Move → Type 0) where
   every-tried cause [] k = tt
   every-tried cause (command ∷ commands) k = (k command, every-tried cause commands k)
 
-  pub every-issue : (book : Book) (commands : List Command) → ((command : Command) → P (Tried Discard command))
-      → P (Committed (record book { pending = without_commands commands book.pending })) → Every (issue book commands)
-  every-issue book [] k p = tt
-  every-issue book (command ∷ commands) k p = (k command, every-append (tried_each Discard commands) _ (every-tried Discard commands k) (p, tt))
+  pub every-issue : (spared : List Command) (book : Book) (commands : List Command) → ((command : Command) → P (Tried Discard command))
+      → P (Committed (record book { pending = without_commands commands book.pending })) → Every (issue spared book commands)
+  every-issue spared book [] k p = tt
+  every-issue spared book (command ∷ commands) k p =
+      every-append (tried_each Discard (without_commands spared (command ∷ commands))) _ (every-tried Discard (without_commands spared (command ∷ commands)) k) (p, tt)
 
   -- the round is called off
   pub every-off : (round : Option Agreement) → P Cancelled → ((c : ℕ) → P (Gave c ShutdownCancelled)) → Every (called_off round)
@@ -106,23 +107,23 @@ module _ (P : Move → Type 0) where
   every-resigned None wide = tt
   every-resigned (Some command) wide = (wide.resigned command, tt)
 
-  every-forgotten : (r : Reading) (entry : Entry) (book : Book) → IsWide → P (Committed book) → Every (discarded r.clients book) → Every (forgotten r entry book)
+  every-forgotten : (r : Reading) (entry : Entry) (book : Book) → IsWide → P (Committed book) → Every (discarded r book) → Every (forgotten r entry book)
   every-forgotten r entry book wide p q =
-      (wide.printed (codes "ok"), (p, every-append (resigned (command_anyway (codes "ResignCommand") entry)) (discarded r.clients book) (every-resigned (command_anyway (codes "ResignCommand") entry) wide) q))
+      (wide.printed (codes "ok"), (p, every-append (resigned (command_anyway (codes "ResignCommand") entry)) (discarded r book) (every-resigned (command_anyway (codes "ResignCommand") entry) wide) q))
 
-  every-forget_one : (r : Reading) (id : List ℕ) (entry : Option Entry) → IsWide → P (Committed (book_forgetting r.store id)) → Every (discarded r.clients (book_forgetting r.store id)) → Every (forget_one r id entry)
+  every-forget_one : (r : Reading) (id : List ℕ) (entry : Option Entry) → IsWide → P (Committed (book_forgetting r.store id)) → Every (discarded r (book_forgetting r.store id)) → Every (forget_one r id entry)
   every-forget_one r id None wide p q = (wide.printed (codes "unknown"), tt)
   every-forget_one r id (Some entry) wide p q =
       every-cond (is_some (client_of id r.clients)) (Printed (codes "live") ∷ []) (forgotten r entry (book_forgetting r.store id)) (wide.printed (codes "live"), tt) (every-forgotten r entry (book_forgetting r.store id) wide p q)
 
-  pub every-forget : (r : Reading) (id : List ℕ) → IsWide → P (Committed (book_forgetting r.store id)) → Every (discarded r.clients (book_forgetting r.store id)) → Every (forget r id)
+  pub every-forget : (r : Reading) (id : List ℕ) → IsWide → P (Committed (book_forgetting r.store id)) → Every (discarded r (book_forgetting r.store id)) → Every (forget r id)
   every-forget r id wide p q =
       every-cond (r.run.is_ending || is_some r.rounds.running) (Printed (codes "busy") ∷ []) (forget_one r id (entry_of id r.store.book)) (wide.printed (codes "busy"), tt) (every-forget_one r id (entry_of id r.store.book) wide p q)
 
   -- what an order asks beyond that: a round may be called off, or a book written; every other one shuts a connection or prints a line
   abbrev pub Suffices : Reading → Order → Type 0
   Suffices r Cancel = Every (called_off r.rounds.running)
-  Suffices r (Forget id) = P (Committed (book_forgetting r.store id)) × Every (discarded r.clients (book_forgetting r.store id))
+  Suffices r (Forget id) = P (Committed (book_forgetting r.store id)) × Every (discarded r (book_forgetting r.store id))
   Suffices r order = Unit {0}
 
   pub every-ordered : (r : Reading) (order : Order) → IsWide → Suffices r order → Every (ordered r order)
@@ -134,10 +135,11 @@ module _ (P : Move → Type 0) where
   every-ordered r order wide k = (wide.printed _, tt)
 
   -- the moves with which a run begins
-  pub every-opening : (book : Book) → ((cause : Cause) (command : Command) → P (Tried cause command)) → ((written : Book) → P (Committed written)) → Every (opening_moves book)
-  every-opening book k p = (
-    p (raised book),
-    every-append (issue (raised book) book.pending) (tried_each Restart (opening_restarts book.entries)) (every-issue (raised book) book.pending (k Discard) (p _)) (every-tried Restart (opening_restarts book.entries) (k Restart)),
+  pub every-opening : (opening : Opening) → ((cause : Cause) (command : Command) → P (Tried cause command)) → ((written : Book) → P (Committed written)) → Every (opening_moves opening)
+  every-opening opening k p = (
+    p (raised opening.book),
+    every-append (issue opening.spared (raised opening.book) opening.book.pending) (tried_each Restart (opening_restarts opening.book.entries))
+        (every-issue opening.spared (raised opening.book) opening.book.pending (k Discard) (p _)) (every-tried Restart (opening_restarts opening.book.entries) (k Restart)),
   )
 
   -- What the rules ask beyond that: messages are given, rounds begin and end, and the next book is written.
@@ -147,7 +149,7 @@ module _ (P : Move → Type 0) where
     pub began : (conns : List ℕ) (wanted : Wanted) → P (Began conns wanted)
     pub over : P Over
     pub agreed : P Agreed
-    pub written : (round : Agreement) → P (Committed (next_book r round)) × Every (discarded r.clients (next_book r round))
+    pub written : (round : Agreement) → P (Committed (next_book r round)) × Every (discarded r (next_book r round))
 
   pub every-completed : (b : Bool) (r : Reading) (round : Agreement) (book : Book) → IsWide → ((command : Command) → P (Tried End command)) → ((c : ℕ) (m : XsmpMessage) → is_ruled m ≡ true → P (Gave c m)) → Every (completed b r.clients round book)
   every-completed true r round book wide last k =
@@ -162,7 +164,7 @@ module _ (P : Move → Type 0) where
     (ruled.written round).0,
     (
       ruled.agreed,
-      every-append (completed round.wanted.shutdown r.clients round (next_book r round)) (discarded r.clients (next_book r round)) (every-completed round.wanted.shutdown r round (next_book r round) wide ruled.last ruled.gave) (ruled.written round).1,
+      every-append (completed round.wanted.shutdown r.clients round (next_book r round)) (discarded r (next_book r round)) (every-completed round.wanted.shutdown r round (next_book r round) wide ruled.last ruled.gave) (ruled.written round).1,
     ),
   )
 

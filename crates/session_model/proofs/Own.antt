@@ -21,7 +21,7 @@ use Rattle.session_model.specs.Phases.{is_owing, is_shutdown}
 use Rattle.session_model.specs.Tables.{is_full}
 use Rattle.session_model.specs.Errors.{no_room, bad_id, full_table, lone_shutdown}
 use Rattle.session_model.specs.declared.events.Arrival.{Arrival}
-use Rattle.session_model.specs.Moves.{Move, Outside, Gave, Blamed, Unset, Closed, Finished, History, ◌▷◌, onto}
+use Rattle.session_model.specs.Moves.{Opening, Move, Outside, Gave, Blamed, Unset, Closed, Finished, History, ◌▷◌, onto}
 use Rattle.session_model.specs.Reading.{Reading, reading, wanted_in}
 use Rattle.session_model.specs.Books.{next_book, book_forgetting, standing, issue, opening_moves}
 use Rattle.session_model.specs.Replies.{or_bad_state, respawned, has_no_room, may_rejoin, register, called_off, want_cancel, has_place, placed, answered, unless_dying, said, ordered, has_no_place, reply, is_overdue, waited}
@@ -67,8 +67,8 @@ answer-cond false xs ys p q = q
 own-wide : IsWide IsOwn
 own-wide = record { respawned = λ id command. tt; resigned = λ command. tt; closed = λ c. tt; printed = λ text. tt }
 
-own-issue : (book : Book) (commands : List Command) → AllOwn (issue book commands)
-own-issue book commands = every-issue IsOwn book commands (λ command. tt) tt
+own-issue : (spared : List Command) (book : Book) (commands : List Command) → AllOwn (issue spared book commands)
+own-issue spared book commands = every-issue IsOwn spared book commands (λ command. tt) tt
 
 -- Rules
 
@@ -83,7 +83,7 @@ own-ruled r = record {
   began = λ conns wanted. tt;
   over = tt;
   agreed = tt;
-  written = λ round. (tt, own-issue (next_book r round) (issuable (standing r.clients) (next_book r round).pending));
+  written = λ round. (tt, own-issue r.store.spared (next_book r round) (issuable (standing r.clients) (next_book r round).pending));
 }
 
 pub own-rule : (r : Reading) → AllOwn (rule r)
@@ -129,7 +129,7 @@ own-said r x m = own-unless r x (r.clients.phase x.conn)
 
 own-suffices : (r : Reading) (order : Order) → Suffices IsOwn r order
 own-suffices r Cancel = own-off r.rounds.running
-own-suffices r (Forget id) = (tt, own-issue (book_forgetting r.store id) (issuable (standing r.clients) (book_forgetting r.store id).pending))
+own-suffices r (Forget id) = (tt, own-issue r.store.spared (book_forgetting r.store id) (issuable (standing r.clients) (book_forgetting r.store id).pending))
 own-suffices r order = tt
 
 pub own-reply : (r : Reading) (event : SessionEvent) → IsAnswer (reply r event)
@@ -175,5 +175,5 @@ all-answers event h =
     }
 
 -- a book is opened by moves of the session's own
-pub own-opening : (book : Book) → AllOwn (opening_moves book)
-own-opening book = every-opening IsOwn book (λ cause command. tt) (λ written. tt)
+pub own-opening : (opening : Opening) → AllOwn (opening_moves opening)
+own-opening opening = every-opening IsOwn opening (λ cause command. tt) (λ written. tt)

@@ -47,7 +47,7 @@ all-of : {A : Type 0} (test : A → Bool) (b : Bool) (x : A) (xs : List A) → t
 all-of test true x xs e p = (e, p)
 all-of test false x xs e p = p
 
-all-passed : {A : Type 0} (test : A → Bool) (xs : List A) → AllByRecursion (λ y. test y ≡ true) (filter test xs)
+pub all-passed : {A : Type 0} (test : A → Bool) (xs : List A) → AllByRecursion (λ y. test y ≡ true) (filter test xs)
 all-passed test [] = tt
 all-passed test (x ∷ xs) = all-of test (test x) x (filter test xs) refl (all-passed test xs)
 

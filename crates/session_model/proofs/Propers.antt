@@ -47,8 +47,8 @@ proper-wide epoch = record { respawned = λ id command. tt; resigned = λ comman
 abbrev pub IsOf : ℕ → Book → Type 0
 IsOf epoch book = (book.epoch ≡ epoch) × AllByRecursion (IsEntry epoch) (all_entries book)
 
-pub proper-issue : (epoch : ℕ) (book : Book) (commands : List Command) → IsOf epoch book → AllProper epoch (issue book commands)
-proper-issue epoch book commands b = every-issue (Proper epoch) book commands (λ command. tt) b
+pub proper-issue : (epoch : ℕ) (spared : List Command) (book : Book) (commands : List Command) → IsOf epoch book → AllProper epoch (issue spared book commands)
+proper-issue epoch spared book commands b = every-issue (Proper epoch) spared book commands (λ command. tt) b
 
 -- The next book
 
@@ -117,7 +117,7 @@ proper-ruled epoch h e t = record {
   began = λ conns wanted. tt;
   over = tt;
   agreed = tt;
-  written = λ round. (is-next epoch h round e t, proper-issue epoch (next_book (reading h) round) (issuable (standing (reading h).clients) (next_book (reading h) round).pending) (is-next epoch h round e t));
+  written = λ round. (is-next epoch h round e t, proper-issue epoch (reading h).store.spared (next_book (reading h) round) (issuable (standing (reading h).clients) (next_book (reading h) round).pending) (is-next epoch h round e t));
 }
 
 pub proper-rule : (epoch : ℕ) (h : History) → (of.book h).epoch ≡ epoch → Tidy epoch h → AllProper epoch (rule (reading h))
@@ -188,7 +188,7 @@ proper-suffices : (epoch : ℕ) (h : History) (order : Order) → (of.book h).ep
 proper-suffices epoch h Cancel e t = proper-off epoch (of.round h)
 proper-suffices epoch h (Forget id) e t = (
   is-forgetting epoch h id e t,
-  proper-issue epoch (book_forgetting (reading h).store id) (issuable (standing (reading h).clients) (book_forgetting (reading h).store id).pending) (is-forgetting epoch h id e t),
+  proper-issue epoch (reading h).store.spared (book_forgetting (reading h).store id) (issuable (standing (reading h).clients) (book_forgetting (reading h).store id).pending) (is-forgetting epoch h id e t),
 )
 proper-suffices epoch h order e t = tt
 

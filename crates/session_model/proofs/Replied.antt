@@ -4,7 +4,6 @@ use Rattle.std.specs.Prelude.{Option, Some, None, codes}
 use Rattle.sm_world.specs.declared.events.Order.{Order}
 use Rattle.sm_world.specs.declared.events.Order.TheVariants.{Cancel, Forget}
 use Rattle.xsmp_properties.specs.Tables.{set_all}
-use Rattle.checkpoint_records.specs.declared.records.Book.{Book}
 use Rattle.discard_ledger.specs.Discards.{issuable}
 use Rattle.xsmp_messages.specs.declared.message.XsmpMessage.{XsmpMessage}
 use Rattle.xsmp_messages.specs.declared.message.XsmpMessage.TheVariants.{Error, RegisterClient, RegisterClientReply, SaveYourselfRequest, InteractDone, ShutdownCancelled, ConnectionClosed, SetProperties, GetProperties}
@@ -146,7 +145,7 @@ good-ordered Cancel h g =
     (good-plain (Printed (codes "no shutdown") ∷ []) (Outside (Operator Cancel) ▷ h) (tt, tt) g)
 good-ordered (Forget id) h g =
     good-plain (forget (reading h) id) (Outside (Operator (Forget id)) ▷ h)
-    (every-forget IsPlain (reading h) id plain-wide tt (plain-issue (book_forgetting (reading h).store id) (issuable (standing (reading h).clients) (book_forgetting (reading h).store id).pending))) g
+    (every-forget IsPlain (reading h) id plain-wide tt (plain-issue (reading h).store.spared (book_forgetting (reading h).store id) (issuable (standing (reading h).clients) (book_forgetting (reading h).store id).pending))) g
 good-ordered order h g = good-plain (ordered (reading h) order) (Outside (Operator order) ▷ h) (every-ordered IsPlain (reading h) order plain-wide tt) g
 
 -- Events
@@ -181,11 +180,11 @@ good-start opening = record {
   level = λ c. refl;
 }
 
-plain-opening : (book : Book) → AllPlain (opening_moves book)
-plain-opening book = every-opening IsPlain book (λ cause command. tt) (λ written. tt)
+plain-opening : (opening : Opening) → AllPlain (opening_moves opening)
+plain-opening opening = every-opening IsPlain opening (λ cause command. tt) (λ written. tt)
 
 pub good-opened : (opening : Opening) → Good (opened opening)
-good-opened opening = good-plain (opening_moves opening.book) (Opened opening) (plain-opening opening.book) (good-start opening)
+good-opened opening = good-plain (opening_moves opening) (Opened opening) (plain-opening opening) (good-start opening)
 
 pub good-run : (events : List SessionEvent) (h : History) → Good h → Good (run h events)
 good-run [] h g = g

@@ -1,7 +1,6 @@
 -- Between events no rule holds.
 use Rattle.std.proofs.Common.{◌≡◌, ℕ, ◌≤◌, List, [], ◌∷◌, length, ap, arith}
 use Rattle.std.specs.Prelude.{Option}
-use Rattle.checkpoint_records.specs.declared.records.Book.{Book}
 use Rattle.interact_queue.specs.Queue.{next_holder}
 use Rattle.session_model.specs.declared.waits.Wait.{Wait}
 use Rattle.session_model.specs.declared.events.SessionEvent.{SessionEvent}
@@ -17,8 +16,8 @@ use Rattle.session_model.proofs.Rest.{left_to_do, round_part, token_part, same-n
 use Rattle.session_model.proofs.MoveKinds.{every-opening}
 use Rattle.session_model.proofs.Falls.{Same, AllSilent, IsSilent, silent-all, no-round, falls-rule, rests-zero, settled-rests, finished-rests}
 
-silent-opening : (book : Book) → AllSilent (opening_moves book)
-silent-opening book = every-opening IsSilent book (λ cause command. tt) (λ written. tt)
+silent-opening : (opening : Opening) → AllSilent (opening_moves opening)
+silent-opening opening = every-opening IsSilent opening (λ cause command. tt) (λ written. tt)
 
 nothing-left : (opening : Opening) (h : History) → Same (Opened opening) h → left_to_do h ≤ 0
 nothing-left opening h s =
@@ -29,7 +28,7 @@ nothing-left opening h s =
 
 rests-opened : (opening : Opening) → rule (reading (opened opening)) ≡ []
 rests-opened opening =
-    rests-zero (opened opening) (rule (reading (opened opening))) (falls-rule (opened opening) (good-opened opening)) (nothing-left opening (opened opening) (silent-all (opening_moves opening.book) (Opened opening) (silent-opening opening.book)))
+    rests-zero (opened opening) (rule (reading (opened opening))) (falls-rule (opened opening) (good-opened opening)) (nothing-left opening (opened opening) (silent-all (opening_moves opening) (Opened opening) (silent-opening opening)))
 
 rests-taken : (event : SessionEvent) (h : History) → Good h → rule (reading (taken event h)) ≡ []
 rests-taken event h g =

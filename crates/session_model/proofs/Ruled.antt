@@ -107,8 +107,8 @@ pub conns-rows : (phase : ℕ → Option Phase) (saved : ℕ → Option (List Pr
 conns-rows phase saved [] = refl
 conns-rows phase saved (c ∷ cs) = ap (λ (xs : List ℕ). c ∷ xs) (conns-rows phase saved cs)
 
-pub plain-issue : (book : Book) (commands : List Command) → AllPlain (issue book commands)
-plain-issue book commands = every-issue IsPlain book commands (λ command. tt) tt
+pub plain-issue : (spared : List Command) (book : Book) (commands : List Command) → AllPlain (issue spared book commands)
+plain-issue spared book commands = every-issue IsPlain spared book commands (λ command. tt) tt
 
 done-step : (p : Option Phase) (success : Bool) → is_done (step_of p success) ≡ true → is_member (completed_phase p) ≡ false
 done-step (Some Done) success e = refl
@@ -193,11 +193,11 @@ good-completed false book h members began w e k f g =
 
 good-agreement : (book : Book) (h : History) (members : List Member) (began : Bool) (w : Wanted) → (w.shutdown ≡ true → of.is_ending (closing book h) ≡ true) → conns_of members ≡ of.members h
     → ((c : ℕ) → is_in c (of.members h) ≡ true → is_member (completed_phase (of.phase_of c h)) ≡ false) → Good h
-    → Good (onto h (agreement_with (reading h).clients (record { members = members; began_empty = began; wanted = w }) book))
+    → Good (onto h (agreement_with (reading h) (record { members = members; began_empty = began; wanted = w }) book))
 good-agreement book h members began w e k f g =
-    good-append (closing book h) (completed w.shutdown (reading h).clients (record { members = members; began_empty = began; wanted = w }) book) (discarded (reading h).clients book)
-    (good-plain (discarded (reading h).clients book) (onto (closing book h) (completed w.shutdown (reading h).clients (record { members = members; began_empty = began; wanted = w }) book))
-    (plain-issue book (issuable (standing (reading h).clients) book.pending))
+    good-append (closing book h) (completed w.shutdown (reading h).clients (record { members = members; began_empty = began; wanted = w }) book) (discarded (reading h) book)
+    (good-plain (discarded (reading h) book) (onto (closing book h) (completed w.shutdown (reading h).clients (record { members = members; began_empty = began; wanted = w }) book))
+    (plain-issue (reading h).store.spared book (issuable (standing (reading h).clients) book.pending))
     (good-completed w.shutdown book h members began w e k f g))
 
 -- A round begins

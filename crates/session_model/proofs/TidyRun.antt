@@ -66,9 +66,9 @@ orderly-raised opening a =
 
 pub orderly-opened : (opening : Opening) → AllByRecursion (IsEntry opening.book.epoch) (all_entries opening.book) → Orderly (opening.book.epoch + 1) (opened opening)
 orderly-opened opening a =
-    orderly-onto (opening.book.epoch + 1) (issue (raised opening.book) opening.book.pending ++ tried_each Restart (opening_restarts opening.book.entries)) (Committed (raised opening.book) ▷ Opened opening)
-    (every-append (Proper (opening.book.epoch + 1)) (issue (raised opening.book) opening.book.pending) (tried_each Restart (opening_restarts opening.book.entries))
-    (proper-issue (opening.book.epoch + 1) (raised opening.book) opening.book.pending (refl, later-entries opening.book.epoch (all_entries opening.book) a)) (every-tried (Proper (opening.book.epoch + 1)) Restart (opening_restarts opening.book.entries) (λ command. tt)))
+    orderly-onto (opening.book.epoch + 1) (issue opening.spared (raised opening.book) opening.book.pending ++ tried_each Restart (opening_restarts opening.book.entries)) (Committed (raised opening.book) ▷ Opened opening)
+    (every-append (Proper (opening.book.epoch + 1)) (issue opening.spared (raised opening.book) opening.book.pending) (tried_each Restart (opening_restarts opening.book.entries))
+    (proper-issue (opening.book.epoch + 1) opening.spared (raised opening.book) opening.book.pending (refl, later-entries opening.book.epoch (all_entries opening.book) a)) (every-tried (Proper (opening.book.epoch + 1)) Restart (opening_restarts opening.book.entries) (λ command. tt)))
     (orderly-raised opening a)
 
 pub orderly : (opening : Opening) (events : List SessionEvent) → KeepsRules opening.book → Orderly (opening.book.epoch + 1) (run (opened opening) events)

@@ -127,27 +127,27 @@ known-same book h e q s = ap (λ (b : Bool). b || has_id q (held_ids h)) (ap (λ
 
 -- The discards after a book
 
-pub carried-issue : (epoch : ℕ) (book : Book) (commands : List Command) (h : History) → KeepsRules book → IsOf epoch book → of.book h ≡ book → Carried epoch h → Carried epoch (onto h (issue book commands))
-carried-issue epoch book [] h k i e c = c
-carried-issue epoch book (command ∷ commands) h k i e c =
-    let tried : List Move = tried_each Discard (command ∷ commands) in
+pub carried-issue : (epoch : ℕ) (spared : List Command) (book : Book) (commands : List Command) (h : History) → KeepsRules book → IsOf epoch book → of.book h ≡ book → Carried epoch h → Carried epoch (onto h (issue spared book commands))
+carried-issue epoch spared book [] h k i e c = c
+carried-issue epoch spared book (command ∷ commands) h k i e c =
+    let tried : List Move = tried_each Discard (without_commands spared (command ∷ commands)) in
     let left : Book = record book { pending = without_commands (command ∷ commands) book.pending } in
     let g : History = onto h tried in
-    let same : of.book g ≡ book = book-mild tried h (mild-tried Discard (command ∷ commands)) ∙ e in
+    let same : of.book g ≡ book = book-mild tried h (mild-tried Discard (without_commands spared (command ∷ commands))) ∙ e in
     subst (λ (x : History). Carried epoch x) (sym (onto-append h tried (Committed left ∷ [])))
-    (committed epoch left g (rules-without book (command ∷ commands) k) i (λ q s. known-same book g same q s) (sym (ap (λ (b : Book). b.name) same)) (sym (ap (λ (b : Book). b.others) same)) (carried-mild epoch tried h (mild-tried Discard (command ∷ commands)) (every-tried (Proper epoch) Discard (command ∷ commands) (λ tried. tt)) c))
+    (committed epoch left g (rules-without book (command ∷ commands) k) i (λ q s. known-same book g same q s) (sym (ap (λ (b : Book). b.name) same)) (sym (ap (λ (b : Book). b.others) same)) (carried-mild epoch tried h (mild-tried Discard (without_commands spared (command ∷ commands))) (every-tried (Proper epoch) Discard (without_commands spared (command ∷ commands)) (λ tried. tt)) c))
 
-pub pending-issue : (book : Book) (commands : List Command) (h : History) → of.book h ≡ book → (of.book (onto h (issue book commands))).pending ≡ without_commands commands book.pending
-pending-issue book [] h e = ap (λ (x : Book). x.pending) e ∙ sym (without-none book.pending)
-pending-issue book (command ∷ commands) h e =
-    ap (λ (x : History). (of.book x).pending) (onto-append h (tried_each Discard (command ∷ commands)) (Committed (record book { pending = without_commands (command ∷ commands) book.pending }) ∷ []))
+pub pending-issue : (spared : List Command) (book : Book) (commands : List Command) (h : History) → of.book h ≡ book → (of.book (onto h (issue spared book commands))).pending ≡ without_commands commands book.pending
+pending-issue spared book [] h e = ap (λ (x : Book). x.pending) e ∙ sym (without-none book.pending)
+pending-issue spared book (command ∷ commands) h e =
+    ap (λ (x : History). (of.book x).pending) (onto-append h (tried_each Discard (without_commands spared (command ∷ commands))) (Committed (record book { pending = without_commands (command ∷ commands) book.pending }) ∷ []))
 
-pub live-issue : (book : Book) (commands : List Command) (h : History) → length (of.live (onto h (issue book commands))) ≤ length (of.live h)
-live-issue book [] h = omega arith
-live-issue book (command ∷ commands) h =
-    let e : length (of.live (onto h (issue book (command ∷ commands)))) ≡ length (of.live (onto h (tried_each Discard (command ∷ commands)))) =
-    ap (λ (x : History). length (of.live x)) (onto-append h (tried_each Discard (command ∷ commands)) (Committed (record book { pending = without_commands (command ∷ commands) book.pending }) ∷ [])) in
-    omega (arith, e, live-mild (tried_each Discard (command ∷ commands)) h (mild-tried Discard (command ∷ commands)))
+pub live-issue : (spared : List Command) (book : Book) (commands : List Command) (h : History) → length (of.live (onto h (issue spared book commands))) ≤ length (of.live h)
+live-issue spared book [] h = omega arith
+live-issue spared book (command ∷ commands) h =
+    let e : length (of.live (onto h (issue spared book (command ∷ commands)))) ≡ length (of.live (onto h (tried_each Discard (without_commands spared (command ∷ commands))))) =
+    ap (λ (x : History). length (of.live x)) (onto-append h (tried_each Discard (without_commands spared (command ∷ commands))) (Committed (record book { pending = without_commands (command ∷ commands) book.pending }) ∷ [])) in
+    omega (arith, e, live-mild (tried_each Discard (without_commands spared (command ∷ commands))) h (mild-tried Discard (without_commands spared (command ∷ commands))))
 
 -- What holds between events
 
@@ -183,18 +183,19 @@ few-registered : (epoch : ℕ) (h : History) → Good h → Carried epoch h → 
 few-registered epoch h g c = fewer-conns (of.registered h) (of.live h) c.once (λ d i. (c.ruly).there d (registered-some (of.phase_of d h) (sym (g.sound.registered_are d) ∙ i)))
 
 -- a book is written, moves that are mild follow, and then the discards
-pub part-written : (epoch : ℕ) (book : Book) (moves : List Move) (h g : History) → g ≡ onto (Committed book ▷ h) (moves ++ discarded (reading h).clients book) → KeepsRules book → IsOf epoch book → ((q : List ℕ) → has_id q (ids_of book.entries) ≡ true → IsKnown q h)
+pub part-written : (epoch : ℕ) (book : Book) (moves : List Move) (h g : History) → g ≡ onto (Committed book ▷ h) (moves ++ discarded (reading h) book) → KeepsRules book → IsOf epoch book → ((q : List ℕ) → has_id q (ids_of book.entries) ≡ true → IsKnown q h)
     → book.name ≡ (of.book h).name → book.others ≡ (of.book h).others → AllMild moves → AllProper epoch moves → Whole epoch h → Part epoch g
 part-written epoch book moves h g is k i n name others e p w =
     let after : History = onto (Committed book ▷ h) moves in
+    let spared : List Command = (reading h).store.spared in
     let commands : List Command = issuable (standing (reading h).clients) book.pending in
     let same : of.book after ≡ book = book-mild moves (Committed book ▷ h) e in
-    let split : g ≡ onto after (issue book commands) = is ∙ onto-append (Committed book ▷ h) moves (issue book commands) in
+    let split : g ≡ onto after (issue spared book commands) = is ∙ onto-append (Committed book ▷ h) moves (issue spared book commands) in
     let c : Carried epoch after = carried-mild epoch moves (Committed book ▷ h) e p (committed epoch book h k i n name others w.carried) in
-    let pending : length (of.book (onto after (issue book commands))).pending ≡ length (without_commands commands book.pending) = ap (λ (xs : List Command). length xs) (pending-issue book commands after same) in
+    let pending : length (of.book (onto after (issue spared book commands))).pending ≡ length (without_commands commands book.pending) = ap (λ (xs : List Command). length xs) (pending-issue spared book commands after same) in
     subst (λ (x : History). Part epoch x) (sym split) (record {
-      carried = carried-issue epoch book commands after k i same c;
-      few_live = omega (arith, live-issue book commands after, live-mild moves (Committed book ▷ h) e, w.few_live);
+      carried = carried-issue epoch spared book commands after k i same c;
+      few_live = omega (arith, live-issue spared book commands after, live-mild moves (Committed book ▷ h) e, w.few_live);
       few_pending = omega (arith, pending, left-few (standing (reading h).clients) book.pending k.commands_differ, few-standing (reading h).clients, few-registered epoch h w.good w.carried, w.few_live);
     })
 

@@ -352,14 +352,14 @@ part-opened opening k f l =
     let epoch : ℕ = opening.book.epoch + 1 in
     let start : History = Committed (raised opening.book) ▷ Opened opening in
     let i : IsOf epoch (raised opening.book) = (refl, later-entries opening.book.epoch (all_entries opening.book) k.entries) in
-    let issued : History = onto start (issue (raised opening.book) opening.book.pending) in
-    let n : length (of.book issued).pending ≡ length (without_commands opening.book.pending opening.book.pending) = ap (λ (xs : List Command). length xs) (pending-issue (raised opening.book) opening.book.pending start refl) in
+    let issued : History = onto start (issue opening.spared (raised opening.book) opening.book.pending) in
+    let n : length (of.book issued).pending ≡ length (without_commands opening.book.pending opening.book.pending) = ap (λ (xs : List Command). length xs) (pending-issue opening.spared (raised opening.book) opening.book.pending start refl) in
     let p : Part epoch issued = record {
-      carried = carried-issue epoch (raised opening.book) opening.book.pending start (rules-raised opening.book k) i refl (carried-raised opening k f l);
-      few_live = omega (arith, live-issue (raised opening.book) opening.book.pending start);
+      carried = carried-issue epoch opening.spared (raised opening.book) opening.book.pending start (rules-raised opening.book k) i refl (carried-raised opening k f l);
+      few_live = omega (arith, live-issue opening.spared (raised opening.book) opening.book.pending start);
       few_pending = omega (arith, n, none-left opening.book.pending k.commands_differ);
     } in
-    subst (λ (x : History). Part epoch x) (sym (onto-append start (issue (raised opening.book) opening.book.pending) (tried_each Restart (opening_restarts opening.book.entries))))
+    subst (λ (x : History). Part epoch x) (sym (onto-append start (issue opening.spared (raised opening.book) opening.book.pending) (tried_each Restart (opening_restarts opening.book.entries))))
     (part-mild epoch (tried_each Restart (opening_restarts opening.book.entries)) issued (mild-tried Restart (opening_restarts opening.book.entries)) (every-tried (Proper epoch) Restart (opening_restarts opening.book.entries) (λ command. tt)) p)
 
 pub books-keep : (opening : Opening) (events : List SessionEvent) → KeepsRules opening.book → length opening.book.others ≤ 7 → opening.book.epoch < 4294967295 → AllTake (opened opening) events → EachMove IsWritten (run (opened opening) events)

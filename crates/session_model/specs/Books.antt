@@ -13,7 +13,7 @@ use Rattle.interact_queue.specs.Queue.{is_in}
 use Rattle.discard_ledger.specs.Discards.{discard_of, issuable, next_pending, without_commands}
 use Rattle.restart_plan.specs.Restarts.{is_immediately, is_never, opening_restarts, restart_of}
 use Rattle.session_model.specs.Tables.{has_id, is_of, is_recorded}
-use Rattle.session_model.specs.Moves.{Committed, Discard, Move, Restart, tried_each}
+use Rattle.session_model.specs.Moves.{Committed, Discard, Move, Opening, Restart, tried_each}
 use Rattle.session_model.specs.Reading.{Clients, Reading, Store, client_of}
 
 -- What becomes of the entries
@@ -91,15 +91,15 @@ book_forgetting store id = with_entries store (filter (λ entry. not (is_of id e
 abbrev pub standing : Clients → List Command
 standing clients = filter_map (λ c. discard_of (clients.table c)) clients.registered
 
--- these pending commands are tried, and then, where there was one, a book without them is written
-abbrev pub issue : Book → List Command → List Move
-issue book [] = []
-issue book (command ∷ commands) =
-    tried_each Discard (command ∷ commands) ++ Committed (record book { pending = without_commands (command ∷ commands) book.pending }) ∷ []
+-- These pending commands are tried, but for those that are spared, and then, where there was one, a book without all of them is written.
+abbrev pub issue : List Command → Book → List Command → List Move
+issue spared book [] = []
+issue spared book (command ∷ commands) =
+    tried_each Discard (without_commands spared (command ∷ commands)) ++ Committed (record book { pending = without_commands (command ∷ commands) book.pending }) ∷ []
 
 -- the pending commands of a book that was just written, where no registered client's table has them
-abbrev pub discarded : Clients → Book → List Move
-discarded clients book = issue book (issuable (standing clients) book.pending)
+abbrev pub discarded : Reading → Book → List Move
+discarded r book = issue r.store.spared book (issuable (standing r.clients) book.pending)
 
 -- a command that an entry has under this name, where its hint is Anyway
 abbrev pub command_anyway : List ℕ → Entry → Option Command
@@ -111,5 +111,6 @@ abbrev pub raised : Book → Book
 raised book = record book { epoch = book.epoch + 1 }
 
 -- the moves with which a run begins over a book
-abbrev pub opening_moves : Book → List Move
-opening_moves book = Committed (raised book) ∷ issue (raised book) book.pending ++ tried_each Restart (opening_restarts book.entries)
+abbrev pub opening_moves : Opening → List Move
+opening_moves opening =
+    Committed (raised opening.book) ∷ issue opening.spared (raised opening.book) opening.book.pending ++ tried_each Restart (opening_restarts opening.book.entries)

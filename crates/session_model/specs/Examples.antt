@@ -25,7 +25,7 @@ use Rattle.session_model.specs.Rules.{opened, run}
 
 -- a run in which each may be silent for ever
 abbrev pub waits_forever : Book → Opening
-waits_forever book = waits_for 0 book
+waits_forever book = waits_for 0 [] book
 
 -- after these events, those bring these acts
 abbrev pub BringsIn : Opening → List SessionEvent → List SessionEvent → List Act → Type 0
@@ -238,6 +238,19 @@ AnOldStateIsDiscarded =
     ∷ prints (codes "ok") ∷ asks_for_save 1 ∷ Commit (first_book (entry_1 (codes "b") ∷ []) (removes (codes "a") ∷ [])) ∷ Say 1 SaveComplete
     ∷ Start Discard (removes (codes "a")) ∷ Commit (first_book (entry_1 (codes "b") ∷ []) []) ∷ [])
 
+-- Where that state is spared nothing is started; all else is as it would be.
+abbrev pub ASparedStateStays : Type 0
+ASparedStateStays =
+    BringsIn (waits_for 0 (removes (codes "a") ∷ []) empty_book) (logs_in 1 ++ says 1 (SetProperties (keeping (codes "a"))) ∷ saved 1 ∷ Operator Checkpoint ∷ [])
+    (sets 1 (discards_by (codes "b")) ∷ saved 1 ∷ [])
+    (Commit (first_book (entry_1 (codes "b") ∷ []) (removes (codes "a") ∷ [])) ∷ Say 1 SaveComplete ∷ Commit (first_book (entry_1 (codes "b") ∷ []) []) ∷ [])
+
+-- At an opening what is pending and spared isn't started either.
+abbrev pub ASparedStateStaysAtAnOpening : Type 0
+ASparedStateStaysAtAnOpening =
+    all_acts (opened (waits_for 0 (removes (codes "a") ∷ []) (record { entries = []; pending = removes (codes "a") ∷ removes (codes "b") ∷ []; epoch = 0; name = default_name; others = [] })))
+    ≡ Commit (first_book [] (removes (codes "a") ∷ removes (codes "b") ∷ [])) ∷ Start Discard (removes (codes "b")) ∷ Commit no_entries ∷ []
+
 -- The next login
 
 abbrev pub entry_of_run : ℕ → ℕ → List ℕ → Entry
@@ -308,21 +321,21 @@ ASessionIsTakenUp =
 -- A client that is asked to save and says nothing is shut after a second, here in two parts; the round goes on without it.
 abbrev pub ASilentClientIsShut : Type 0
 ASilentClientIsShut =
-    BringsIn (waits_for 1000 empty_book) (log_in_and_save (1 ∷ 2 ∷ []))
+    BringsIn (waits_for 1000 [] empty_book) (log_in_and_save (1 ∷ 2 ∷ []))
     (Operator Checkpoint ∷ saved 1 ∷ Tick 600 ∷ Tick 400 ∷ [])
     (prints (codes "ok") ∷ asks_for_save 1 ∷ asks_for_save 2 ∷ Shut 2 ∷ Commit no_entries ∷ Say 1 SaveComplete ∷ [])
 
 -- Who talks with the user may take as long as that takes. It has a second again once it has given the token back.
 abbrev pub TalkingIsNoSilence : Type 0
 TalkingIsNoSilence =
-    BringsIn (waits_for 1000 empty_book) (log_in_and_save (1 ∷ 2 ∷ []))
+    BringsIn (waits_for 1000 [] empty_book) (log_in_and_save (1 ∷ 2 ∷ []))
     (Operator Shutdown ∷ saved 1 ∷ says 2 (InteractRequest Normal) ∷ Tick 5000 ∷ says 2 (InteractDone false) ∷ Tick 999 ∷ Tick 1 ∷ [])
     (prints (codes "ok") ∷ asks_for_shutdown 1 ∷ asks_for_shutdown 2 ∷ Say 2 Interact ∷ Shut 2 ∷ Commit no_entries ∷ Say 1 Die ∷ [])
 
 -- Who still owes an answer to a shutdown that was called off is waited for; a round of its own begins for nobody until then.
 abbrev pub ADebtEndsWithPatience : Type 0
 ADebtEndsWithPatience =
-    BringsIn (waits_for 1000 empty_book) (log_in_and_save (1 ∷ 2 ∷ []))
+    BringsIn (waits_for 1000 [] empty_book) (log_in_and_save (1 ∷ 2 ∷ []))
     (Operator Shutdown ∷ saved 1 ∷ Operator Cancel ∷ Operator Checkpoint ∷ Tick 999 ∷ Tick 1 ∷ saved 1 ∷ [])
     (prints (codes "ok") ∷ asks_for_shutdown 1 ∷ asks_for_shutdown 2 ∷ prints (codes "ok") ∷ Say 1 ShutdownCancelled ∷ Say 2 ShutdownCancelled
     ∷ prints (codes "ok") ∷ Shut 2 ∷ asks_for_save 1 ∷ Commit no_entries ∷ Say 1 SaveComplete ∷ [])
@@ -330,7 +343,7 @@ ADebtEndsWithPatience =
 -- Two are overdue at once, and are shut in the order in which they registered. Settling comes behind both.
 abbrev pub TwoAreShutAtOnce : Type 0
 TwoAreShutAtOnce =
-    BringsIn (waits_for 1000 empty_book) (log_in_and_save (1 ∷ 2 ∷ 3 ∷ []))
+    BringsIn (waits_for 1000 [] empty_book) (log_in_and_save (1 ∷ 2 ∷ 3 ∷ []))
     (Operator Checkpoint ∷ saved 2 ∷ Tick 18446744073709551615 ∷ [])
     (prints (codes "ok") ∷ asks_for_save 1 ∷ asks_for_save 2 ∷ asks_for_save 3 ∷ Shut 1 ∷ Shut 3 ∷ Commit no_entries ∷ Say 2 SaveComplete ∷ [])
 

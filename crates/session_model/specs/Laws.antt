@@ -6,7 +6,9 @@ use Rattle.session_model.specs.declared.events.SessionEvent.TheVariants.{Said, T
 use Rattle.round_agreement.specs.Agreement.{are_distinct}
 use Rattle.interact_queue.specs.Queue.{is_in}
 use Rattle.session_model.specs.Phases.{is_asked, is_dying, is_interacting, is_member, is_registered}
-use Rattle.session_model.specs.Moves.{Move, Outside, Gave, Blamed, Committed, History, Opened, Opening, ◌▷◌}
+use Rattle.session_model.specs.Moves.{Move, Outside, Gave, Blamed, Committed, Discard, History, Opened, Opening, Tried, ◌▷◌}
+use Rattle.owned_lists.specs.declared.commands.Command.{Command}
+use Rattle.discard_ledger.specs.Discards.{is_among}
 use Rattle.session_model.specs.Waits.{is_only}
 use Rattle.session_model.specs.Reading.{reading}
 use Rattle.checkpoint_records.specs.Books.{all_entries}
@@ -105,6 +107,15 @@ IsBeside book m = Unit {0}
 -- Every book that is written is of the session that runs, and leaves the others as they were.
 abbrev pub OthersStay : Type 0
 OthersStay = (opening : Opening) (events : List SessionEvent) → EachMove (IsBeside opening.book) (run (opened opening) events)
+
+-- what is started to discard something isn't spared
+abbrev pub IsUnspared : List Command → Move → Type 0
+IsUnspared spared (Tried Discard command) = is_among command spared ≡ false
+IsUnspared spared m = Unit {0}
+
+-- No command that is spared is started to discard something.
+abbrev pub SparedIsKept : Type 0
+SparedIsKept = (opening : Opening) (events : List SessionEvent) → EachMove (IsUnspared opening.spared) (run (opened opening) events)
 
 -- Silence
 

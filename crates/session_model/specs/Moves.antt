@@ -62,15 +62,16 @@ pub data Move : Type 0 where
   -- the run ended
   Finished : Move
 
--- How a run begins: with the book that it opened, and with so many milliseconds for which a client may be silent that owes an
--- answer (0: for ever).
+-- How a run begins: with the book that it opened, with so many milliseconds for which a client may be silent that owes an
+-- answer (0: for ever), and with the commands that are spared: what they discard is kept elsewhere, as in an older book.
 pub record Opening : Type 0 where
   pub book : Book
   pub patience : ℕ
+  pub spared : List Command
 
--- over this book, with so much patience
-abbrev pub waits_for : ℕ → Book → Opening
-waits_for patience book = record { book = book; patience = patience }
+-- over this book, with so much patience, where these are spared
+abbrev pub waits_for : ℕ → List Command → Book → Opening
+waits_for patience spared book = record { book = book; patience = patience; spared = spared }
 
 -- the moves since a book was opened, the latest first
 pub data History : Type 0 where

@@ -32,10 +32,11 @@ pub record Token : Type 0 where
   pub waiting : List ℕ
   pub is_held : Bool
 
--- the book that was written last, and the commands that stopped standing since
+-- the book that was written last, the commands that stopped standing since, and those that are spared
 pub record Store : Type 0 where
   pub book : Book
   pub strays : List Command
+  pub spared : List Command
 
 -- how many new IDs were given, which IDs of the opened book nobody has registered with yet, how often the client of
 -- an ID was started again at once, whether a shutdown was agreed, and for how long a client may be silent
@@ -67,7 +68,7 @@ reading h = record {
   };
   rounds = record { running = of.round h; waits = of.waits h };
   token = record { waiting = of.waiting h; is_held = of.is_held h };
-  store = record { book = of.book h; strays = of.strays h };
+  store = record { book = of.book h; strays = of.strays h; spared = of.spared h };
   run = record {
     given = of.given h;
     expected = of.expected h;

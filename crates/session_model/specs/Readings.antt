@@ -47,6 +47,11 @@ abbrev pub patience : History → ℕ
 patience (Opened opening) = opening.patience
 patience (m ▷ h) = patience h
 
+-- the commands that are spared
+abbrev pub spared : History → List Command
+spared (Opened opening) = opening.spared
+spared (m ▷ h) = spared h
+
 -- Connections
 
 -- the live connections, in the order in which they joined

@@ -155,7 +155,7 @@ resigned (Some command) = Tried Resign command ∷ []
 -- The book without the entry is written; then the client's ResignCommand is started, where its hint is Anyway, and
 -- the discards that nobody needs.
 abbrev pub forgotten : Reading → Entry → Book → List Move
-forgotten r entry book = Printed (codes "ok") ∷ Committed book ∷ resigned (command_anyway (codes "ResignCommand") entry) ++ discarded r.clients book
+forgotten r entry book = Printed (codes "ok") ∷ Committed book ∷ resigned (command_anyway (codes "ResignCommand") entry) ++ discarded r book
 
 abbrev pub forget_one : Reading → List ℕ → Option Entry → List Move
 forget_one r id None = Printed (codes "unknown") ∷ []

@@ -36,12 +36,12 @@ abbrev pub completed : Bool → Clients → Agreement → Book → List Move
 completed true clients round book = ended clients book
 completed false clients round book = gave_each SaveComplete (conns_of round.members)
 
-abbrev pub agreement_with : Clients → Agreement → Book → List Move
-agreement_with clients round book = Committed book ∷ Agreed ∷ completed round.wanted.shutdown clients round book ++ discarded clients book
+abbrev pub agreement_with : Reading → Agreement → Book → List Move
+agreement_with r round book = Committed book ∷ Agreed ∷ completed round.wanted.shutdown r.clients round book ++ discarded r book
 
 -- The next book is written, the round ends, the clients are told, and what nobody needs any more is discarded.
 abbrev pub agreement : Reading → Agreement → List Move
-agreement r round = agreement_with r.clients round (next_book r round)
+agreement r round = agreement_with r round (next_book r round)
 
 -- The rules
 
@@ -158,7 +158,7 @@ Takes (Tick milliseconds) r = Unit {0}
 
 -- the history with which a run begins
 abbrev pub opened : Opening → History
-opened opening = onto (Opened opening) (opening_moves opening.book)
+opened opening = onto (Opened opening) (opening_moves opening)
 
 -- after these events more
 abbrev pub run : History → List SessionEvent → History

@@ -1,4 +1,4 @@
-ghost use Rattle.session_model.specs.Laws.{NobodyRegistersTwice, PhasesTellWhoIsRegistered, OneHasTheToken, MembersAreAskedToSave, RoundsWaitForRegistered, DeathIsOfShutdown, PhasesTellWhoWaits, NobodyWaitsTwice, SettlingComesToRest, BooksKeepRules, MessagesFit, EntriesKeepRules, OthersStay, SilenceIsCounted};
+ghost use Rattle.session_model.specs.Laws.{NobodyRegistersTwice, PhasesTellWhoIsRegistered, OneHasTheToken, MembersAreAskedToSave, RoundsWaitForRegistered, DeathIsOfShutdown, PhasesTellWhoWaits, NobodyWaitsTwice, SettlingComesToRest, BooksKeepRules, MessagesFit, EntriesKeepRules, OthersStay, SparedIsKept, SilenceIsCounted};
 
 /// Does nothing: its contract is a law of every history. Nobody is registered twice.
 pub fn nobody_registers_twice()
@@ -48,6 +48,11 @@ pub fn settling_comes_to_rest()
 /// Does nothing: its contract is a law of every history. Every book that is written is of the session that runs, and leaves the others as they were.
 pub fn others_stay()
     ensures { OthersStay }
+{}
+
+/// Does nothing: its contract is a law of every history. No command that is spared is started to discard something.
+pub fn spared_is_kept()
+    ensures { SparedIsKept }
 {}
 
 /// Does nothing: its contract is a law of every history. Every book that is written keeps the rules of the store, where the opened book does, has seven other sessions at most and an epoch below 4,294,967,295, and each event is one that the history allows.

@@ -1,4 +1,4 @@
-ghost use Rattle.session_model.specs.Examples.{ANewClientSaves, AnUnknownIdIsRefused, ALongIdIsShownInPart, PropertiesAreKept, AFullTableIsRefused, ThereIsRoomFor64, ACheckpointGoesOn, ACheckpointWaitsForAll, TheTokenGoesOn, TheTokenIsHeldByOne, TheTokenIsGivenBack, OnlyErrorsAreAllowed, AShutdownIsCancelled, AnEmptySessionEnds, OrdersAnswer, AnOldStateIsDiscarded, ExpectedEntriesStay, TheRequestTellsWhoIsNew, ASessionIsTakenUp, ASilentClientIsShut, TalkingIsNoSilence, ADebtEndsWithPatience, TwoAreShutAtOnce, WithoutPatienceNobodyIsShut};
+ghost use Rattle.session_model.specs.Examples.{ANewClientSaves, AnUnknownIdIsRefused, ALongIdIsShownInPart, PropertiesAreKept, AFullTableIsRefused, ThereIsRoomFor64, ACheckpointGoesOn, ACheckpointWaitsForAll, TheTokenGoesOn, TheTokenIsHeldByOne, TheTokenIsGivenBack, OnlyErrorsAreAllowed, AShutdownIsCancelled, AnEmptySessionEnds, OrdersAnswer, AnOldStateIsDiscarded, ASparedStateStays, ASparedStateStaysAtAnOpening, ExpectedEntriesStay, TheRequestTellsWhoIsNew, ASessionIsTakenUp, ASilentClientIsShut, TalkingIsNoSilence, ADebtEndsWithPatience, TwoAreShutAtOnce, WithoutPatienceNobodyIsShut};
 
 /// Does nothing: its contract is a list of worked sessions, each of which the definitions compute.
 pub fn sessions_compute()
@@ -18,6 +18,8 @@ pub fn sessions_compute()
     ensures an_empty_session_ends { AnEmptySessionEnds }
     ensures orders_answer { OrdersAnswer }
     ensures an_old_state_is_discarded { AnOldStateIsDiscarded }
+    ensures a_spared_state_stays { ASparedStateStays }
+    ensures a_spared_state_stays_at_an_opening { ASparedStateStaysAtAnOpening }
     ensures expected_entries_stay { ExpectedEntriesStay }
     ensures the_request_tells_who_is_new { TheRequestTellsWhoIsNew }
     ensures a_session_is_taken_up { ASessionIsTakenUp }

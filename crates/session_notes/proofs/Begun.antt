@@ -35,12 +35,12 @@ restarts-seen [] h = sym (append-nil (entries h))
 restarts-seen (command ∷ commands) h = restarts-seen commands _ ∙ append_assoc (entries h) (again command ∷ []) (map again commands)
 
 -- the moves before them
-abbrev before : Book → List Move
-before book = Committed (raised book) ∷ issue (raised book) book.pending
+abbrev before : Opening → List Move
+before opening = Committed (raised opening.book) ∷ issue opening.spared (raised opening.book) opening.book.pending
 
-opened-seen : (opening : Opening) → entries (opened opening) ≡ entries (onto (Opened opening) (before opening.book)) ++ map again (opening_restarts opening.book.entries)
+opened-seen : (opening : Opening) → entries (opened opening) ≡ entries (onto (Opened opening) (before opening)) ++ map again (opening_restarts opening.book.entries)
 opened-seen opening =
-    ap (λ (h : History). entries h) (onto-append (Opened opening) (before opening.book) (tried_each Restart (opening_restarts opening.book.entries))) ∙ restarts-seen (opening_restarts opening.book.entries) (onto (Opened opening) (before opening.book))
+    ap (λ (h : History). entries h) (onto-append (Opened opening) (before opening) (tried_each Restart (opening_restarts opening.book.entries))) ∙ restarts-seen (opening_restarts opening.book.entries) (onto (Opened opening) (before opening))
 
 none-first : (xs ys : List SessionEvent) → xs ++ ys ≡ [] → xs ≡ []
 none-first [] ys e = refl
@@ -48,7 +48,7 @@ none-first (x ∷ xs) ys e = absurd (grind arith)
 
 pub begins-again : RunsBeginAgain
 begins-again opening events =
-    let first : List Entry = entries (onto (Opened opening) (before opening.book)) in
+    let first : List Entry = entries (onto (Opened opening) (before opening)) in
     let again_all : List Entry = map again (opening_restarts opening.book.entries) in
     let g : Goes (entries (opened opening)) (run (opened opening) events) = goes-run (entries (opened opening)) events (opened opening) ([], append-nil (entries (opened opening))) in
     record {

@@ -33,5 +33,5 @@ beside-each book (m ▷ h) e = (beside-of book m (noted_of h) e.0, beside-each b
 
 pub others-stay : OthersStay
 others-stay book written seen s =
-    let h : History = run (opened (waits_for s.patience book)) s.events in
-    at-entry (HasOthers book) h seen s.later (Did (Commit written)) s.parts (beside-each book h (all-beside (waits_for s.patience book) s.events))
+    let h : History = run (opened (waits_for s.patience s.spared book)) s.events in
+    at-entry (HasOthers book) h seen s.later (Did (Commit written)) s.parts (beside-each book h (all-beside (waits_for s.patience s.spared book) s.events))

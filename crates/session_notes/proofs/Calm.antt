@@ -1,5 +1,5 @@
 -- Moves that ask nothing of the history, and the discards that go with a book.
-use Rattle.std.proofs.Common.{◌≡◌, refl, ℕ, Bool, true, false, cond, ◌||◌, List, [], ◌∷◌, ◌++◌, eqb, sym, ap, subst, ◌∙◌, arith}
+use Rattle.std.proofs.Common.{◌≡◌, refl, ℕ, Bool, true, false, cond, not, ◌||◌, List, [], ◌∷◌, ◌++◌, eqb, sym, ap, subst, ◌∙◌, arith}
 use Rattle.std.specs.Prelude.{Option, None}
 use Rattle.std.specs.List.{AllByRecursion}
 use Rattle.owned_lists.specs.declared.commands.Command.{Command}
@@ -24,10 +24,11 @@ use Rattle.session_model.proofs.Pending.{all-more}
 use Rattle.session_notes.specs.Keeping.{is_started}
 use Rattle.session_notes.proofs.Seen.{noted_of}
 use Rattle.session_notes.proofs.Kept.{IsNeedless}
+use Rattle.session_notes.proofs.Discards.{among-kept}
 use Rattle.session_notes.proofs.Next.{issued-is, all-issuable, not-standing}
 use Rattle.session_notes.proofs.Suits.{Suits}
 use Rattle.session_notes.proofs.Fine.{Fine, fine-step}
-use Rattle.session_notes.proofs.Tests.{or-second}
+use Rattle.session_notes.proofs.Tests.{or-first, or-second}
 
 -- Moves that ask nothing
 
@@ -87,9 +88,19 @@ fine-append h xs ys f = subst (λ (x : History). Fine x) (sym (onto-append h xs 
 
 -- Commands that discard states
 
-fine-tried : (commands : List Command) (h : History) → AllByRecursion (λ command. IsNeedless command h) commands → Fine h → Fine (onto h (tried_each Discard commands))
+-- nobody needs the state, and it isn't spared
+abbrev MayGo : Command → History → Type 0
+MayGo command h = IsNeedless command h × (is_among command (of.spared h) ≡ false)
+
+fine-tried : (commands : List Command) (h : History) → AllByRecursion (λ command. MayGo command h) commands → Fine h → Fine (onto h (tried_each Discard commands))
 fine-tried [] h a f = f
-fine-tried (c ∷ commands) h a f = fine-tried commands (Tried Discard c ▷ h) (all-more (λ command. IsNeedless command h) (λ command. IsNeedless command (Tried Discard c ▷ h)) (λ command n. record { pending = n.pending; unset = n.unset; alone = n.alone }) commands a.1) (fine-step (Tried Discard c) h a.0 f)
+fine-tried (c ∷ commands) h a f =
+    fine-tried commands (Tried Discard c ▷ h)
+    (all-more (λ command. MayGo command h) (λ command. MayGo command (Tried Discard c ▷ h)) (λ command n. (record { pending = n.0.pending; unset = n.0.unset; alone = n.0.alone }, n.1)) commands a.1) (fine-step (Tried Discard c) h a.0 f)
+
+pub spared-onto : (moves : List Move) (h : History) → of.spared (onto h moves) ≡ of.spared h
+spared-onto [] h = refl
+spared-onto (m ∷ moves) h = spared-onto moves (m ▷ h)
 
 book-tried : (commands : List Command) (h : History) → of.book (onto h (tried_each Discard commands)) ≡ of.book h
 book-tried [] h = refl
@@ -105,14 +116,39 @@ started-all command (c ∷ commands) h e =
     or-either (same_command command c) (is_among command commands) (λ s. started-more command commands (Tried Discard c ▷ h) (ap (λ (b : Bool). b || is_started command (noted_of h)) s))
     (λ i. started-all command commands (Tried Discard c ▷ h) i) e
 
-pub fine-issue : (book : Book) (commands : List Command) (h : History) → of.book h ≡ book → AllByRecursion (λ command. IsNeedless command h) commands → Fine h → Fine (onto h (issue book commands))
-fine-issue book [] h e a f = f
-fine-issue book (c ∷ commands) h e a f =
+-- those that aren't spared may go
+may-go : (spared commands : List Command) (h : History) → spared ≡ of.spared h → AllByRecursion (λ command. IsNeedless command h) commands
+    → AllByRecursion (λ command. MayGo command h) (without_commands spared commands)
+may-go spared [] h e a = tt
+may-go spared (c ∷ commands) h e a = at (is_among c spared) refl (may-go spared commands h e a.1) where
+  at : (b : Bool) → is_among c spared ≡ b → AllByRecursion (λ command. MayGo command h) (without_commands spared commands)
+      → AllByRecursion (λ command. MayGo command h) (cond (not b) (c ∷ without_commands spared commands) (without_commands spared commands))
+  at true k rest = rest
+  at false k rest = ((a.0, ap (λ (x : List Command). is_among c x) (sym e) ∙ k), rest)
+
+-- each command is started, unless it is spared
+started-or-spared : (spared commands : List Command) (h : History) (command : Command) → is_among command commands ≡ true
+    → (is_started command (noted_of (onto h (tried_each Discard (without_commands spared commands)))) || is_among command spared) ≡ true
+started-or-spared spared commands h command i = at (is_among command spared) refl where
+  started : Bool
+  started = is_started command (noted_of (onto h (tried_each Discard (without_commands spared commands))))
+
+  at : (b : Bool) → is_among command spared ≡ b → (started || b) ≡ true
+  at true k = or-second started true refl
+  at false k = or-first started false (started-all command (without_commands spared commands) h (among-kept spared commands command k i))
+
+pub fine-issue : (spared : List Command) (book : Book) (commands : List Command) (h : History) → of.book h ≡ book → spared ≡ of.spared h → AllByRecursion (λ command. IsNeedless command h) commands → Fine h → Fine (onto h (issue spared book commands))
+fine-issue spared book [] h e w a f = f
+fine-issue spared book (c ∷ commands) h e w a f =
     let left : Book = record book { pending = without_commands (c ∷ commands) book.pending } in
-    let g : History = onto h (tried_each Discard (c ∷ commands)) in
-    let k : Fine g = fine-tried (c ∷ commands) h a f in
-    fine-append h (tried_each Discard (c ∷ commands)) (Committed left ∷ [])
-    (fine-step (Committed left) g (issued-is book (c ∷ commands) g (noted_of g) (book-tried (c ∷ commands) h ∙ e) k.keeps.book (λ command i. started-all command (c ∷ commands) h i)) k)
+    let tried : List Command = without_commands spared (c ∷ commands) in
+    let g : History = onto h (tried_each Discard tried) in
+    let same : spared ≡ of.spared g = w ∙ sym (spared-onto (tried_each Discard tried) h) in
+    let k : Fine g = fine-tried tried h (may-go spared (c ∷ commands) h w a) f in
+    fine-append h (tried_each Discard tried) (Committed left ∷ [])
+    (fine-step (Committed left) g
+    (issued-is book (c ∷ commands) g (noted_of g) (book-tried tried h ∙ e) k.keeps.book
+    (λ command i. ap (λ (x : List Command). is_started command (noted_of g) || is_among command x) (sym same) ∙ started-or-spared spared (c ∷ commands) h command i)) k)
 
 -- Tables that stay
 
@@ -168,8 +204,8 @@ still-ruled c m e = refl
 -- The discards that go with a book
 
 -- the tables are those of the history from which the answer or the rule is told
-pub fine-discarded : (book : Book) (h g : History) → AreRegistered h → SameTables h g → of.book g ≡ book → ((c : ℕ) → is_member (of.phase_of c g) ≡ false) → Fine g → Fine (onto g (discarded (reading h).clients book))
-fine-discarded book h g r s e a f = fine-issue book (issuable (standing (reading h).clients) book.pending) g e (all-needless (issuable (standing (reading h).clients) book.pending) (all-issuable (standing (reading h).clients) book.pending)) f where
+pub fine-discarded : (book : Book) (h g : History) → AreRegistered h → SameTables h g → of.book g ≡ book → of.spared h ≡ of.spared g → ((c : ℕ) → is_member (of.phase_of c g) ≡ false) → Fine g → Fine (onto g (discarded (reading h) book))
+fine-discarded book h g r s e w a f = fine-issue (of.spared h) book (issuable (standing (reading h).clients) book.pending) g e w (all-needless (issuable (standing (reading h).clients) book.pending) (all-issuable (standing (reading h).clients) book.pending)) f where
   all-needless : (commands : List Command) → AllByRecursion (λ command. (is_among command book.pending ≡ true) × (is_among command (standing (reading h).clients) ≡ false)) commands → AllByRecursion (λ command. IsNeedless command g) commands
   all-needless [] k = tt
   all-needless (command ∷ commands) k = (

@@ -10,10 +10,11 @@ use Rattle.checkpoint_records.specs.declared.records.Book.{Book}
 use Rattle.checkpoint_records.specs.declared.records.Entry.{Entry as Kept}
 use Rattle.checkpoint_records.specs.Books.{names}
 use Rattle.discard_ledger.specs.Discards.{is_among}
-use Rattle.session_model.specs.declared.events.Act.TheVariants.{Commit, Say}
+use Rattle.session_model.specs.declared.events.Act.TheVariants.{Commit, Say, Start}
+use Rattle.session_model.specs.declared.events.Reason.TheVariants.{Discard}
 use Rattle.session_model.specs.Phases.{is_member, is_dying}
 use Rattle.session_model.specs.Tables.{is_recorded}
-use Rattle.session_model.specs.Moves.{Move, Outside, Gave, Blamed, Unset, Closed, Tried, Committed, Printed, Finished, History, ◌▷◌}
+use Rattle.session_model.specs.Moves.{Move, Discard as ToDiscard, Outside, Gave, Blamed, Unset, Closed, Tried, Committed, Printed, Finished, History, ◌▷◌}
 use Rattle.session_model.specs.Readings as of
 use Rattle.session_model.proofs.Pending.{all-more}
 use Rattle.session_model.proofs.Sound.{Sound, sound-step, or-either}
@@ -60,13 +61,14 @@ abbrev pub KeptHolds : Book → List Note → Type 0
 KeptHolds book n = IsOpenable book → (id : List ℕ) → Holding (book_in book n) id (kept_in book id n)
 
 -- what a book that is written and an ID that is given ask of the notes before them
-abbrev pub IsOwed : Book → List Note → Entry → Type 0
-IsOwed book n (Did (Commit written)) =
+abbrev pub IsOwed : List Command → Book → List Note → Entry → Type 0
+IsOwed spared book n (Did (Commit written)) =
     AllByRecursion (λ entry. Contains (book_in book n).entries entry ⊎ IsSaved book n entry) written.entries
-    × ((command : Command) → is_among command (book_in book n).pending ≡ true → (is_among command written.pending || names written command || is_started command n) ≡ true)
+    × ((command : Command) → is_among command (book_in book n).pending ≡ true → (is_among command written.pending || names written command || is_started command n || is_among command spared) ≡ true)
     × ((command : Command) → names (book_in book n) command ≡ true → (is_among command written.pending || names written command) ≡ true)
-IsOwed book n (Did (Say c (RegisterClientReply id))) = (is_newcomer c n ≡ false → is_recorded id (book_in book n) ≡ true) × (IsOpenable book → is_newcomer c n ≡ true → IsFresh book n id)
-IsOwed book n entry = Unit {0}
+IsOwed spared book n (Did (Start Discard command)) = is_among command spared ≡ false
+IsOwed spared book n (Did (Say c (RegisterClientReply id))) = (is_newcomer c n ≡ false → is_recorded id (book_in book n) ≡ true) × (IsOpenable book → is_newcomer c n ≡ true → IsFresh book n id)
+IsOwed spared book n entry = Unit {0}
 
 -- who dies does so since a shutdown was agreed
 pub bound-member : (c : ℕ) (h : History) → Sound h → of.is_ending h ≡ false → is_bound_to_save (of.phase_of c h) ≡ true → is_member (of.phase_of c h) ≡ true
@@ -106,11 +108,11 @@ saves-told h n (entry ∷ xs) k a = (told-at a.0, saves-told h n xs k a.1) where
   told-at (inl s) = inl (subst (λ (b : Book). Contains b.entries entry) (sym k.book) s)
   told-at (inr s) = inr (record { conn = s.conn; id = k.id s.conn ∙ s.id; table = k.saved s.going s.conn ∙ s.table })
 
-owed-given : (c : ℕ) (m : XsmpMessage) (h : History) → Suits (Gave c m) h → Keeps h (noted_of h) → IsOwed (kept.opened_of h) (noted_of h) (Did (Say c m))
+owed-given : (c : ℕ) (m : XsmpMessage) (h : History) → Suits (Gave c m) h → Keeps h (noted_of h) → IsOwed (of.spared h) (kept.opened_of h) (noted_of h) (Did (Say c m))
 owed-given c (RegisterClientReply id) h s k = (λ w. ap (λ (b : Book). is_recorded id b) k.book ∙ s.1.again w, λ o w. next-fresh c id h (noted_of h) s.1 k.epoch k.book k.id (k.aged o) w)
 owed-given c m h s k = tt
 
-owed-step : (m : Move) (h : History) → Suits m h → Keeps h (noted_of h) → AllByRecursion (IsOwed (kept.opened_of h) (noted_of h)) (entries_of m)
+owed-step : (m : Move) (h : History) → Suits m h → Keeps h (noted_of h) → AllByRecursion (IsOwed (of.spared h) (kept.opened_of h) (noted_of h)) (entries_of m)
 owed-step (Committed written) h s k =
     ((saves-told h (noted_of h) written.entries k s.entries, λ command e. s.pending command (sym (ap (λ (b : Book). is_among command b.pending) k.book) ∙ e), λ command e. s.named command (sym (ap (λ (b : Book). names b command) k.book) ∙ e)), tt)
 owed-step (Outside event) h s k = (tt, tt)
@@ -118,6 +120,7 @@ owed-step (Gave c m) h s k = (owed-given c m h s k, tt)
 owed-step (Blamed c error) h s k = (tt, tt)
 owed-step (Unset c) h s k = (tt, tt)
 owed-step (Closed c) h s k = (tt, tt)
+owed-step (Tried ToDiscard command) h s k = (s.1, tt)
 owed-step (Tried cause command) h s k = (tt, tt)
 owed-step (Printed text) h s k = (tt, tt)
 owed-step Finished h s k = (tt, tt)
@@ -133,7 +136,7 @@ pub record Fine (h : History) : Type 0 where
   pub due : EachEntry IsDue h
   pub ids : AtEach (IdsHold (kept.opened_of h)) h
   pub discards : AtEach (DiscardsHold (kept.opened_of h)) h
-  pub owed : EachEntry (IsOwed (kept.opened_of h)) h
+  pub owed : EachEntry (IsOwed (of.spared h) (kept.opened_of h)) h
   pub standing : IsOpenable (kept.opened_of h) → Standing (kept.opened_of h) (noted_of h)
   pub stands : AtEach (KeptHolds (kept.opened_of h)) h
 

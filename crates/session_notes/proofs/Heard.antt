@@ -54,7 +54,7 @@ use Rattle.session_notes.proofs.Fresh.{aged-refused}
 use Rattle.session_notes.proofs.Keeps.{Keeps}
 use Rattle.session_notes.proofs.Tells.{Told}
 use Rattle.session_notes.proofs.Fine.{OneHas, IdsHold, DiscardsHold, KeptHolds, Fine, fine-step}
-use Rattle.session_notes.proofs.Calm.{AllCalm, IsCalm, IsStill, calm-wide, fine-calm, fine-append, still-onto, still-wide, fine-discarded}
+use Rattle.session_notes.proofs.Calm.{AllCalm, IsCalm, IsStill, calm-wide, fine-calm, fine-append, still-onto, still-wide, fine-discarded, spared-onto}
 use Rattle.session_model.proofs.MoveKinds.{every-cond, every-depart, every-departs, every-off, every-ordered, every-resigned, every-respawned}
 use Rattle.session_notes.proofs.Tests.{and-after, cond-one, moved, or-none, or-second, own, filter-same}
 
@@ -368,8 +368,8 @@ fine-forgotten id entry h a none f =
     let asked : History = asked_to_forget id h in
     let written : History = Committed book ▷ asked in
     let g : History = onto written (resigned last) in
-    fine-append written (resigned last) (discarded (reading h).clients book)
-    (fine-discarded book h g f.sound.registered_are (still-onto (resigned last) h written (every-resigned IsStill last still-wide) (λ c e. (e, refl))) (book-resigned last written) (λ c. lone-resigned c last written (a c))
+    fine-append written (resigned last) (discarded (reading h) book)
+    (fine-discarded book h g f.sound.registered_are (still-onto (resigned last) h written (every-resigned IsStill last still-wide) (λ c e. (e, refl))) (book-resigned last written) (sym (spared-onto (resigned last) written)) (λ c. lone-resigned c last written (a c))
     (fine-calm (resigned last) written (every-resigned IsCalm last calm-wide)
     (fine-step (Committed book) asked (forgetting-is asked id (noted_of asked) (λ o. fates-forgetting (opened_of h) asked id (noted_of h) f.keeps.book (none-held h (opened_of h) id (noted_of h) f.keeps (f.standing o) none))) (fine-step (Printed (codes "ok")) (Outside (Operator (Forget id)) ▷ h) tt (fine-step (Outside (Operator (Forget id))) h tt f)))))
 

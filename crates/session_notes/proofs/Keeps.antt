@@ -167,7 +167,7 @@ clear-heard event h t command e = kept.clear-step command (Outside event) h tt (
 
 clear-tried : (cause : Cause) (other : Command) (h : History) (n : List Note) → Suits (Tried cause other) h → NoneNamed (of.book h) → ClearTold h n → ClearTold (Tried cause other ▷ h) (Started (reason_of cause) other ∷ n)
 clear-tried Discard other h n s u t command e =
-    kept.clear-step command (Tried Discard other) h tt (or-either (same_command command other) (is_discarded command n) (λ i. kept.clear-needless command other h i s u) (λ i. t command i) e)
+    kept.clear-step command (Tried Discard other) h tt (or-either (same_command command other) (is_discarded command n) (λ i. kept.clear-needless command other h i s.0 u) (λ i. t command i) e)
 clear-tried cause other h n s u t command e = kept.clear-step command (Tried cause other) h tt (t command e)
 
 clear-step : (m : Move) (h : History) → Suits m h → NoneNamed (of.book h) → ClearTold h (noted_of h) → ClearTold (m ▷ h) (noted_of (m ▷ h))

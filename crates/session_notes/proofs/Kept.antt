@@ -72,7 +72,7 @@ pub record IsNext (written : Book) (h : History) (n : List Note) : Type 0 where
   pub epoch : written.epoch ≡ (of.book h).epoch
   pub others : written.others ≡ (of.book h).others
   pub entries : AllByRecursion (λ entry. Contains (of.book h).entries entry ⊎ Saves entry h) written.entries
-  pub pending : (command : Command) → is_among command (of.book h).pending ≡ true → (is_among command written.pending || names written command || is_started command n) ≡ true
+  pub pending : (command : Command) → is_among command (of.book h).pending ≡ true → (is_among command written.pending || names written command || is_started command n || is_among command (of.spared h)) ≡ true
   pub named : (command : Command) → names (of.book h) command ≡ true → (is_among command written.pending || names written command) ≡ true
   pub unnamed : NoneNamed (of.book h) → NoneNamed written
   pub fates : IsOpenable (opened_of h) → Fates (opened_of h) written n

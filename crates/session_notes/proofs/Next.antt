@@ -27,7 +27,7 @@ use Rattle.session_notes.specs.Laws.{IsOpenable}
 use Rattle.session_notes.proofs.Discards.{among-by, among-kept, kept-among}
 use Rattle.session_notes.proofs.Kept.{Saves, IsNext, opened_of}
 use Rattle.session_notes.proofs.Standing.{Fates, fates-same}
-use Rattle.session_notes.proofs.Tests.{contains-first, contains-later, or-false, or-first, or-none, or-second, own, same-there}
+use Rattle.session_notes.proofs.Tests.{contains-first, contains-later, or-false, or-first, or-last, or-none, or-second, own, same-there}
 
 -- where an entry comes from
 abbrev pub Comes : History → Entry → Type 0
@@ -222,7 +222,7 @@ next-is r h n a f = record {
   epoch = refl;
   others = refl;
   entries = next-come r h a;
-  pending = λ command e. pending-kept (of.book h) (of.strays h) (all_entries (next_book (reading h) (round_now r h))) command n e;
+  pending = λ command e. or-first _ (is_among command (of.spared h)) (pending-kept (of.book h) (of.strays h) (all_entries (next_book (reading h) (round_now r h))) command n e);
   named = λ command e. named-kept (of.book h) (of.strays h) (next_entries (reading h) (round_now r h)) command e;
   unnamed = λ u command e. none-named (of.book h) (of.strays h) (all_entries (next_book (reading h) (round_now r h))) command e;
   fates = f;
@@ -233,14 +233,14 @@ forgetting-is h id n f = record {
   epoch = refl;
   others = refl;
   entries = all-filter (Comes h) (λ entry. not (is_of id entry)) (of.book h).entries (same-come h (of.book h).entries refl);
-  pending = λ command e. pending-kept (of.book h) (of.strays h) (all_entries (book_forgetting (reading h).store id)) command n e;
+  pending = λ command e. or-first _ (is_among command (of.spared h)) (pending-kept (of.book h) (of.strays h) (all_entries (book_forgetting (reading h).store id)) command n e);
   named = λ command e. named-kept (of.book h) (of.strays h) (filter (λ entry. not (is_of id entry)) (of.book h).entries) command e;
   unnamed = λ u command e. none-named (of.book h) (of.strays h) (all_entries (book_forgetting (reading h).store id)) command e;
   fates = f;
 }
 
--- the book without the commands that were just started
-pub issued-is : (book : Book) (commands : List Command) (h : History) (n : List Note) → of.book h ≡ book → book_in (opened_of h) n ≡ of.book h → ((command : Command) → is_among command commands ≡ true → is_started command n ≡ true)
+-- the book without the commands each of which was just started or is spared
+pub issued-is : (book : Book) (commands : List Command) (h : History) (n : List Note) → of.book h ≡ book → book_in (opened_of h) n ≡ of.book h → ((command : Command) → is_among command commands ≡ true → (is_started command n || is_among command (of.spared h)) ≡ true)
     → IsNext (record book { pending = without_commands commands book.pending }) h n
 issued-is book commands h n e i s = record {
   epoch = sym (ap (λ (b : Book). b.epoch) e);
@@ -251,11 +251,12 @@ issued-is book commands h n e i s = record {
   unnamed = λ u command k. sym (ap (λ (b : Book). names b command) e) ∙ u command (ap (λ (b : Book). is_among command b.pending) e ∙ (kept-among commands book.pending command k).0);
   fates = λ o. fates-same (opened_of h) (record book { pending = without_commands commands book.pending }) n (ap (λ (b : Book). b.entries) (i ∙ e));
 } where
-  pending-at : (command : Command) (b : Bool) → is_among command commands ≡ b → is_among command book.pending ≡ true → (is_among command (without_commands commands book.pending) || is_among command (discards (all_entries book)) || is_started command n) ≡ true
-  pending-at command true a k = or-second (is_among command (without_commands commands book.pending) || is_among command (discards (all_entries book))) (is_started command n) (s command a)
+  pending-at : (command : Command) (b : Bool) → is_among command commands ≡ b → is_among command book.pending ≡ true → (is_among command (without_commands commands book.pending) || is_among command (discards (all_entries book)) || is_started command n || is_among command (of.spared h)) ≡ true
+  pending-at command true a k = or-last (is_among command (without_commands commands book.pending) || is_among command (discards (all_entries book))) (is_started command n) (is_among command (of.spared h)) (s command a)
   pending-at command false a k =
-      or-first (is_among command (without_commands commands book.pending) || is_among command (discards (all_entries book))) (is_started command n)
-      (or-first (is_among command (without_commands commands book.pending)) (is_among command (discards (all_entries book))) (among-kept commands book.pending command a k))
+      or-first _ (is_among command (of.spared h))
+      (or-first (is_among command (without_commands commands book.pending) || is_among command (discards (all_entries book))) (is_started command n)
+      (or-first (is_among command (without_commands commands book.pending)) (is_among command (discards (all_entries book))) (among-kept commands book.pending command a k)))
 
 -- Commands that are started
 

@@ -53,7 +53,7 @@ use Rattle.session_notes.proofs.Entries.{completes-next, fates-next}
 use Rattle.session_notes.proofs.Standing.{Completes, Holding, Standing, fates-same, holds-opened, standing-first, standing-step}
 use Rattle.session_notes.proofs.Fresh.{aged-opening}
 use Rattle.session_notes.proofs.Fine.{OneHas, IsDue, IdsHold, DiscardsHold, KeptHolds, IsOwed, Fine, bound-member, fine-step}
-use Rattle.session_notes.proofs.Calm.{fine-calm, fine-append, fine-issue, fine-discarded, IsCalm, IsStill, still-onto, still-ruled, still-wide}
+use Rattle.session_notes.proofs.Calm.{fine-calm, fine-append, fine-issue, fine-discarded, IsCalm, IsStill, still-onto, still-ruled, still-wide, spared-onto}
 use Rattle.session_model.proofs.MoveKinds.{every-closed, every-completed, every-tried}
 use Rattle.session_model.proofs.Driven.{taken-keeps}
 use Rattle.session_notes.proofs.Heard.{fine-reply_to}
@@ -304,9 +304,9 @@ fine-agreement : (r : of.Begun) (h : History) → of.running h ≡ Some r → al
 fine-agreement r h e a g f =
     let book : Book = next_book (reading h) (round_now r h) in
     let tail : List Move = completed r.wanted.shutdown (reading h).clients (round_now r h) book in
-    fine-append (agreed_now book h) tail (discarded (reading h).clients book)
+    fine-append (agreed_now book h) tail (discarded (reading h) book)
     (fine-discarded book h (onto (agreed_now book h) tail) g.sound.registered_are (still-onto tail h (agreed_now book h) (every-completed IsStill r.wanted.shutdown (reading h) (round_now r h) book still-wide (λ command. tt) still-ruled) (λ c i. (i, refl)))
-    (book-completed r.wanted.shutdown (reading h).clients (round_now r h) book (agreed_now book h)) (lone-completed r.wanted.shutdown r book h a g)
+    (book-completed r.wanted.shutdown (reading h).clients (round_now r h) book (agreed_now book h)) (sym (spared-onto tail (agreed_now book h))) (lone-completed r.wanted.shutdown r book h a g)
     (fine-completed r.wanted.shutdown (reading h).clients (round_now r h) book (agreed_now book h) (ends-session r h e) (λ o c i. complete-now r h e g f o c (in-round r h e g f c i)) (complete-now r h e g f) (fine-agreed_now r h e a g f)))
 
 fine-over : (b : Bool) (h : History) → Fine h → Fine (onto h (over_rule b))
@@ -400,7 +400,7 @@ fine-opening opening = record {
   due = ((tt, tt), tt);
   ids = ((tt, λ o. none-differ), (tt, λ o. none-differ));
   discards = (λ u command e. absurd (grind arith), λ u command e. absurd (grind arith));
-  owed = (((all-more (Contains opening.book.entries) (λ entry. Contains opening.book.entries entry ⊎ IsSaved opening.book [] entry) (λ entry s. inl s) opening.book.entries (all-stand opening.book.entries), λ command e. or-first _ (is_started command []) (or-first (is_among command opening.book.pending) (names (raised opening.book) command) e), λ command e. or-second (is_among command opening.book.pending) (names (raised opening.book) command) e), tt), tt);
+  owed = (((all-more (Contains opening.book.entries) (λ entry. Contains opening.book.entries entry ⊎ IsSaved opening.book [] entry) (λ entry s. inl s) opening.book.entries (all-stand opening.book.entries), λ command e. or-first _ (is_among command opening.spared) (or-first _ (is_started command []) (or-first (is_among command opening.book.pending) (names (raised opening.book) command) e)), λ command e. or-second (is_among command opening.book.pending) (names (raised opening.book) command) e), tt), tt);
   standing = λ o. standing-opened opening;
   stands = (λ o. (standing-opened opening).holds, λ o. holds-opened opening.book);
 }
@@ -415,10 +415,10 @@ all-among (command ∷ commands) = (
 
 fine-opened : (opening : Opening) → Fine (opened opening)
 fine-opened opening =
-    let issued : History = onto (begun opening) (issue (raised opening.book) opening.book.pending) in
-    fine-append (begun opening) (issue (raised opening.book) opening.book.pending) (tried_each Restart (opening_restarts opening.book.entries))
+    let issued : History = onto (begun opening) (issue opening.spared (raised opening.book) opening.book.pending) in
+    fine-append (begun opening) (issue opening.spared (raised opening.book) opening.book.pending) (tried_each Restart (opening_restarts opening.book.entries))
     (fine-calm (tried_each Restart (opening_restarts opening.book.entries)) issued (every-tried IsCalm Restart (opening_restarts opening.book.entries) (λ command. refl))
-    (fine-issue (raised opening.book) opening.book.pending (begun opening) refl (all-more (λ command. is_among command opening.book.pending ≡ true) (λ command. IsNeedless command (begun opening)) (λ command k. record { pending = k; unset = λ c e. absurd (grind arith); alone = λ c. refl }) opening.book.pending (all-among opening.book.pending)) (fine-opening opening)))
+    (fine-issue opening.spared (raised opening.book) opening.book.pending (begun opening) refl refl (all-more (λ command. is_among command opening.book.pending ≡ true) (λ command. IsNeedless command (begun opening)) (λ command k. record { pending = k; unset = λ c e. absurd (grind arith); alone = λ c. refl }) opening.book.pending (all-among opening.book.pending)) (fine-opening opening)))
 
 pub fine : (opening : Opening) (events : List SessionEvent) → Fine (run (opened opening) events)
 fine opening events = fine-run events (opened opening) (good-opened opening) (fine-opened opening)
@@ -435,29 +435,42 @@ opened-run (event ∷ events) h = opened-run events (taken event h) ∙ opened-t
 opened-is : (opening : Opening) (events : List SessionEvent) → opened_of (run (opened opening) events) ≡ opening.book
 opened-is opening events = opened-run events (opened opening) ∙ kept-opening (λ h. opened_of h ≡ opening.book) (λ m h i e. e) opening refl
 
+-- What is spared stays so
+
+spared-taken : (event : SessionEvent) (h : History) → of.spared (taken event h) ≡ of.spared h
+spared-taken event h = kept-taken (λ g. of.spared g ≡ of.spared h) (λ m g i e. e) event h refl
+
+spared-run : (events : List SessionEvent) (h : History) → of.spared (run h events) ≡ of.spared h
+spared-run [] h = refl
+spared-run (event ∷ events) h = spared-run events (taken event h) ∙ spared-taken event h
+
+spared-is : (opening : Opening) (events : List SessionEvent) → of.spared (run (opened opening) events) ≡ opening.spared
+spared-is opening events = spared-run events (opened opening) ∙ kept-opening (λ h. of.spared h ≡ opening.spared) (λ m h i e. e) opening refl
+
 -- The laws
 
 pub one-has : (book : Book) (seen : List Entry) → IsSeen book seen → OneHas (notes seen)
-one-has book seen s = at-front OneHas (run (opened (waits_for s.patience book)) s.events) seen s.later s.parts (fine (waits_for s.patience book) s.events).one
+one-has book seen s = at-front OneHas (run (opened (waits_for s.patience s.spared book)) s.events) seen s.later s.parts (fine (waits_for s.patience s.spared book) s.events).one
 
 pub is-due : (book : Book) (seen : List Entry) (entry : Entry) → IsSeen book (seen ++ entry ∷ []) → IsDue (notes seen) entry
-is-due book seen entry s = at-entry IsDue (run (opened (waits_for s.patience book)) s.events) seen s.later entry s.parts (fine (waits_for s.patience book) s.events).due
+is-due book seen entry s = at-entry IsDue (run (opened (waits_for s.patience s.spared book)) s.events) seen s.later entry s.parts (fine (waits_for s.patience s.spared book) s.events).due
 
 pub ids-hold : (book : Book) (seen : List Entry) → IsSeen book seen → IdsHold book (notes seen)
 ids-hold book seen s =
-    at-front (IdsHold book) (run (opened (waits_for s.patience book)) s.events) seen s.later s.parts (subst (λ (b : Book). AtEach (IdsHold b) (run (opened (waits_for s.patience book)) s.events)) (opened-is (waits_for s.patience book) s.events) (fine (waits_for s.patience book) s.events).ids)
+    at-front (IdsHold book) (run (opened (waits_for s.patience s.spared book)) s.events) seen s.later s.parts (subst (λ (b : Book). AtEach (IdsHold b) (run (opened (waits_for s.patience s.spared book)) s.events)) (opened-is (waits_for s.patience s.spared book) s.events) (fine (waits_for s.patience s.spared book) s.events).ids)
 
 pub discards-hold : (book : Book) (seen : List Entry) → IsSeen book seen → DiscardsHold book (notes seen)
 discards-hold book seen s =
-    at-front (DiscardsHold book) (run (opened (waits_for s.patience book)) s.events) seen s.later s.parts (subst (λ (b : Book). AtEach (DiscardsHold b) (run (opened (waits_for s.patience book)) s.events)) (opened-is (waits_for s.patience book) s.events) (fine (waits_for s.patience book) s.events).discards)
+    at-front (DiscardsHold book) (run (opened (waits_for s.patience s.spared book)) s.events) seen s.later s.parts (subst (λ (b : Book). AtEach (DiscardsHold b) (run (opened (waits_for s.patience s.spared book)) s.events)) (opened-is (waits_for s.patience s.spared book) s.events) (fine (waits_for s.patience s.spared book) s.events).discards)
 
-pub is-owed : (book : Book) (seen : List Entry) (entry : Entry) → IsSeen book (seen ++ entry ∷ []) → IsOwed book (notes seen) entry
+pub is-owed : (book : Book) (seen : List Entry) (entry : Entry) (s : IsSeen book (seen ++ entry ∷ [])) → IsOwed s.spared book (notes seen) entry
 is-owed book seen entry s =
-    at-entry (IsOwed book) (run (opened (waits_for s.patience book)) s.events) seen s.later entry s.parts (subst (λ (b : Book). EachEntry (IsOwed b) (run (opened (waits_for s.patience book)) s.events)) (opened-is (waits_for s.patience book) s.events) (fine (waits_for s.patience book) s.events).owed)
+    at-entry (IsOwed s.spared book) (run (opened (waits_for s.patience s.spared book)) s.events) seen s.later entry s.parts (subst (λ (b : Book). EachEntry (IsOwed s.spared b) (run (opened (waits_for s.patience s.spared book)) s.events)) (opened-is (waits_for s.patience s.spared book) s.events)
+    (subst (λ (x : List Command). EachEntry (IsOwed x (opened_of (run (opened (waits_for s.patience s.spared book)) s.events))) (run (opened (waits_for s.patience s.spared book)) s.events)) (spared-is (waits_for s.patience s.spared book) s.events) (fine (waits_for s.patience s.spared book) s.events).owed))
 
 pub kept-holds : (book : Book) (seen : List Entry) → IsSeen book seen → KeptHolds book (notes seen)
 kept-holds book seen s =
-    at-front (KeptHolds book) (run (opened (waits_for s.patience book)) s.events) seen s.later s.parts (subst (λ (b : Book). AtEach (KeptHolds b) (run (opened (waits_for s.patience book)) s.events)) (opened-is (waits_for s.patience book) s.events) (fine (waits_for s.patience book) s.events).stands)
+    at-front (KeptHolds book) (run (opened (waits_for s.patience s.spared book)) s.events) seen s.later s.parts (subst (λ (b : Book). AtEach (KeptHolds b) (run (opened (waits_for s.patience s.spared book)) s.events)) (opened-is (waits_for s.patience s.spared book) s.events) (fine (waits_for s.patience s.spared book) s.events).stands)
 
 -- a book that keeps the rules names none of its pending commands
 all-unnamed : (book : Book) (pending : List Command) → AllByRecursion (λ command. names book command ≡ false) pending → (command : Command) → is_among command pending ≡ true → names book command ≡ false

@@ -8,6 +8,7 @@ use Rattle.session_model.specs.declared.phase.Phase.TheVariants.{Unregistered}
 use Rattle.session_model.specs.declared.events.SessionEvent.TheVariants.{Said}
 use Rattle.session_model.specs.Phases.{is_interacting, is_member, is_shutdown}
 use Rattle.session_model.specs.Moves.{Move, Discard, Outside, Gave, Blamed, Unset, Began, Agreed, Tried, Committed, History}
+use Rattle.discard_ledger.specs.Discards.{is_among}
 use Rattle.session_model.specs.Readings as of
 use Rattle.session_model.proofs.Sound.{Fits}
 use Rattle.session_model.proofs.Asked.{is_at_work}
@@ -36,7 +37,7 @@ Suits (Unset c) h = of.phase_of c h ≡ Some Unregistered
 Suits (Blamed c error) h = ⊥
 Suits (Began conns wanted) h = of.is_ending h ≡ false
 Suits (Committed written) h = IsNext written h (noted_of h)
-Suits (Tried Discard command) h = IsNeedless command h
+Suits (Tried Discard command) h = IsNeedless command h × (is_among command (of.spared h) ≡ false)
 Suits Agreed h = is_shutdown (of.wanted h) ≡ true → (c : ℕ) → is_at_work (of.phase_of c h) ≡ false
 Suits m h = Unit {0}
 

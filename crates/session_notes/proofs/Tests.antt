@@ -15,6 +15,10 @@ pub or-second : (x y : Bool) → y ≡ true → (x || y) ≡ true
 or-second true y e = refl
 or-second false y e = e
 
+pub or-last : (x y z : Bool) → (y || z) ≡ true → (x || y || z) ≡ true
+or-last true y z e = refl
+or-last false y z e = e
+
 pub or-none : (x y : Bool) → (x || y) ≡ false → (x ≡ false) × (y ≡ false)
 or-none true y e = absurd (grind arith)
 or-none false y e = (refl, e)

@@ -12,7 +12,8 @@ use Rattle.checkpoint_records.specs.Rules.{KeepsRules}
 use Rattle.discard_ledger.specs.Discards.{is_among}
 use Rattle.xsmp_messages.specs.declared.message.XsmpMessage.TheVariants.{Interact, RegisterClientReply, SaveYourselfPhase2}
 use Rattle.session_model.specs.declared.events.SessionEvent.{SessionEvent}
-use Rattle.session_model.specs.declared.events.Act.TheVariants.{Commit, Say}
+use Rattle.session_model.specs.declared.events.Act.TheVariants.{Commit, Say, Start}
+use Rattle.session_model.specs.declared.events.Reason.TheVariants.{Discard}
 use Rattle.session_model.specs.Moves.{History, Opening, all_acts, waits_for}
 use Rattle.session_model.specs.Rules.{opened, run}
 use Rattle.session_model.specs.Tables.{is_kept_id, is_recorded}
@@ -20,12 +21,14 @@ use Rattle.session_notes.specs.Notes.{Did, Entry, Note, acts_in, came_in, entrie
 use Rattle.session_notes.specs.Keeping.{IsOfRun, book_in, given_ids, id_in, is_discarded, is_newcomer, is_started, new_ids, snapshot_in}
 use Rattle.session_notes.specs.Watching.{has_answered, has_token, is_to_save, requests}
 
--- Somebody who watches has seen this so far, the oldest first: a run over this book shows it, whatever its patience, and then goes on.
+-- Somebody who watches has seen this so far, the oldest first: a run over this book shows it, whatever its patience and whatever is
+-- spared in it, and then goes on.
 pub record IsSeen (book : Book) (seen : List Entry) : Type 0 where
   pub patience : ℕ
+  pub spared : List Command
   pub events : List SessionEvent
   pub later : List Entry
-  pub parts : seen ++ later ≡ entries (run (opened (waits_for patience book)) events)
+  pub parts : seen ++ later ≡ entries (run (opened (waits_for patience spared book)) events)
 
 -- each event is seen
 abbrev pub AllEventsAreSeen : Type 0
@@ -100,11 +103,15 @@ abbrev pub DiscardedStatesAreNotNamed : Type 0
 DiscardedStatesAreNotNamed =
     (book : Book) (seen : List Entry) (command : Command) → KeepsRules book → IsSeen book seen → is_discarded command (notes seen) ≡ true → names (book_in book (notes seen)) command ≡ false
 
--- A command that is pending stays pending in the next book, or this book names it, or it was started between the two.
+-- A command that is pending stays pending in the next book, or this book names it, or it was started between the two, or it is spared.
 abbrev pub PendingIsNotLost : Type 0
 PendingIsNotLost =
-    (book written : Book) (seen : List Entry) (command : Command) → IsSeen book (seen ++ Did (Commit written) ∷ []) → is_among command (book_in book (notes seen)).pending ≡ true
-    → (is_among command written.pending || names written command || is_started command (notes seen)) ≡ true
+    (book written : Book) (seen : List Entry) (command : Command) (s : IsSeen book (seen ++ Did (Commit written) ∷ [])) → is_among command (book_in book (notes seen)).pending ≡ true
+    → (is_among command written.pending || names written command || is_started command (notes seen) || is_among command s.spared) ≡ true
+
+-- No command that is spared is started to discard a state.
+abbrev pub SparedIsNotStarted : Type 0
+SparedIsNotStarted = (book : Book) (seen : List Entry) (command : Command) (s : IsSeen book (seen ++ Did (Start Discard command) ∷ [])) → is_among command s.spared ≡ false
 
 -- A command that the book that stands names is named by the next book too, or pending in it. So no state that can be discarded lies
 -- there without a book that knows of it.

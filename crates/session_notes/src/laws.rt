@@ -1,4 +1,4 @@
-ghost use Rattle.session_notes.specs.Laws.{AllActsAreSeen, AllEventsAreSeen, OneHasTheToken, TheFirstIsServed, TheSecondPhaseWaits, NewIdsAreOfTheRun, NewIdsDiffer, NewIdsAreFresh, EntriesWereSaved, OthersStay, DiscardedStatesAreNotNamed, PendingIsNotLost, NamedIsNotLost, OldIdsAreRecorded};
+ghost use Rattle.session_notes.specs.Laws.{AllActsAreSeen, AllEventsAreSeen, OneHasTheToken, TheFirstIsServed, TheSecondPhaseWaits, NewIdsAreOfTheRun, NewIdsDiffer, NewIdsAreFresh, EntriesWereSaved, OthersStay, DiscardedStatesAreNotNamed, PendingIsNotLost, SparedIsNotStarted, NamedIsNotLost, OldIdsAreRecorded};
 ghost use Rattle.session_notes.specs.Kept.{CompletedSavesStand, SavesAreKept};
 ghost use Rattle.session_notes.specs.Opening.{RunsBeginAgain};
 
@@ -62,9 +62,14 @@ pub fn discarded_states_are_not_named()
     ensures { DiscardedStatesAreNotNamed }
 {}
 
-/// Does nothing: its contract is a law of all that is seen of a run. A pending command stays pending, is named, or was started.
+/// Does nothing: its contract is a law of all that is seen of a run. A pending command stays pending, is named, was started, or is spared.
 pub fn pending_is_not_lost()
     ensures { PendingIsNotLost }
+{}
+
+/// Does nothing: its contract is a law of all that is seen of a run. No command that is spared is started to discard a state.
+pub fn spared_is_not_started()
+    ensures { SparedIsNotStarted }
 {}
 
 /// Does nothing: its contract is a law of all that is seen of a run. A command that a book names is named by the next one, or pending in it.

@@ -1,10 +1,15 @@
--- The line of a session's name.
+-- The lines of a session's name and of what is spared.
 use Rattle.std.specs.Prelude.{codes}
 use Rattle.std.specs.Str.{bytes_eq}
-use Rattle.std.proofs.Common.{◌≡◌, ℕ, Bool, true, false, if◌then◌else◌, List, [], ◌∷◌, ◌++◌, ap, sym, ◌∙◌, append_assoc}
+use Rattle.std.proofs.Common.{◌≡◌, ℕ, ◌==◌, Bool, true, false, if◌then◌else◌, List, [], ◌∷◌, ◌++◌, length, ap, sym, ◌∙◌, append_assoc, arith}
+use Rattle.std.proofs.lemmas.Bool.{false≢true}
+use Rattle.std.proofs.lemmas.Bool.Decides.{Decides-eqb}
 use Rattle.std.proofs.lemmas.List.{append-nil}
+use Rattle.owned_lists.specs.declared.commands.Command.{Command}
 use Rattle.checkpoint_records.specs.Books.{default_name}
-use Rattle.session_recorder.specs.Openings.{word_line, session_line}
+use Rattle.checkpoint_records.specs.Spelling.{book_bytes}
+use Rattle.control_lines.specs.Fields.{hex_text}
+use Rattle.session_recorder.specs.Openings.{pending_book, session_line, spared_line, word_line}
 
 line_by : (is_default : Bool) → List ℕ → List ℕ
 line_by is_default name = if is_default then [] else word_line (codes "session ") name
@@ -26,3 +31,13 @@ named out name meant first second last own isnt one two three =
     ∙ append_assoc out (codes "session " ++ name) (10 ∷ [])
     ∙ ap (λ (t : List ℕ). out ++ t) (append_assoc (codes "session ") name (10 ∷ []))
     ∙ ap (λ (b : Bool). out ++ line_by b name) (sym other)
+
+-- Where nothing is spared there is no line.
+pub spares_none : (out : List ℕ) (spared items : List Command) → items ≡ spared → true ≡ (length items == 0) → out ≡ out ++ spared_line spared
+spares_none out [] items same none = sym (append-nil out)
+spares_none out (command ∷ spared) items same none = absurd (omega (arith, (Decides-eqb (length items) 0).0 (sym none), ap length same))
+
+-- Where something is, it is the line of a book with these commands.
+pub spares_some : (out new : List ℕ) (spared items : List Command) (spelled : List ℕ) → items ≡ spared → false ≡ (length items == 0) → spelled ≡ book_bytes (pending_book spared) → new ≡ out ++ word_line (codes "spared ") (hex_text spelled) → new ≡ out ++ spared_line spared
+spares_some out new [] items spelled same some is line = absurd (false≢true (some ∙ ap (λ (commands : List Command). length commands == 0) same))
+spares_some out new (command ∷ spared) items spelled same some is line = line ∙ ap (λ (bytes : List ℕ). out ++ word_line (codes "spared ") (hex_text bytes)) is

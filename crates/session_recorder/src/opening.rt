@@ -1,12 +1,12 @@
 ghost use Rattle.std.specs.Prelude.{◌≡◌, ◌++◌, IfOk, OnOk};
 ghost use Rattle.control_lines.specs.Fields.{hex_text};
 ghost use Rattle.store_report.specs.Findings.{OpensByRules};
-ghost use Rattle.session_recorder.specs.Openings.{book_line, cookie_line, patience_line, session_line, word_line, IsOpening};
+ghost use Rattle.session_recorder.specs.Openings.{book_line, cookie_line, patience_line, pending_book, session_line, spared_line, word_line, CanBeSpared, IsOpening};
 
-use checkpoint_records::spell_book;
+use checkpoint_records::{Book, spell_book};
 use control_lines::put_hex;
 use ice_cookie::Cookie;
-use owned_lists::{NoMemory, Octets};
+use owned_lists::{CommandList, Duplicate, NoMemory, Octets};
 use std::alloc::Global;
 use store_report::{Finding, look_into};
 
@@ -59,18 +59,42 @@ fn put_session(out: &mut Octets, name: &[u8]) -> Result<(), NoMemory>
     out.append(b"\n")
 }
 
+/// A book with nothing but copies of these pending commands.
+fn book_with(alloc: Global, commands: &CommandList) -> Result<Book, NoMemory>
+    ensures { IfOk result (λ book. book ≡ pending_book commands.now) }
+{
+    let mut book = Book::empty(alloc)?;
+    book.pending = commands.copy()?;
+    Ok(book)
+}
+
+/// Appends the line of the commands that are spared, where there are any.
+fn put_spared(alloc: Global, out: &mut Octets, spared: &CommandList) -> Result<(), NoMemory>
+    requires { CanBeSpared spared.now }
+    ensures { OnOk result (out.new ≡ out.old ++ spared_line spared.now) }
+{
+    if spared.as_slice().is_empty() {
+        return Ok(());
+    }
+    let book = book_with(alloc, spared)?;
+    let spelled = spell_book(alloc, &book)?;
+    put_bytes(alloc, out, "spared ", spelled.as_slice())
+}
+
 /// What the record of a session opens with, over a store with these bytes: the session's cookie, the
-/// book of the store in hex, how many milliseconds a client may be silent, where that is limited, and
-/// what the session is called, where that isn't `default`. A store over which no session opens gives
-/// no line.
+/// book of the store in hex, how many milliseconds a client may be silent, where that is limited, what
+/// the session is called, where that isn't `default`, and the commands that are spared in it, where
+/// there are any. A store over which no session opens gives no line.
 pub fn opening_of(
     alloc: Global,
     store: Octets,
     cookie: &Cookie,
     patience: u64,
     session: &[u8],
+    spared: &CommandList,
 ) -> Result<Octets, NoMemory>
-    ensures { IfOk result (IsOpening store cookie.now patience session.now) }
+    requires { CanBeSpared spared.now }
+    ensures { IfOk result (IsOpening store cookie.now patience session.now spared.now) }
 {
     let finding = look_into(alloc, store)?;
     let mut text = Octets::new(alloc);
@@ -78,5 +102,6 @@ pub fn opening_of(
     put_book(alloc, &mut text, &finding)?;
     put_patience(alloc, &mut text, patience)?;
     put_session(&mut text, session)?;
+    put_spared(alloc, &mut text, spared)?;
     Ok(text)
 }

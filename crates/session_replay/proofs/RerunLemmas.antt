@@ -80,8 +80,8 @@ unfinished_front acts rest none all = subst (λ b. (if b then true else has_fini
 
 run_ends : (config : Config) (book : Book) (front rest : List Event) → has_finish (script config book front) ≡ true → run config book (front ++ rest) ≡ run config book front
 run_ends config book front rest finishes =
-    ap (λ shown. map Did (deeds_in (opening_acts book)) ++ shown)
-    (run_stops (start config book) front rest (unfinished_front (opening_acts book) (script_from (start config book) front) (opened_unfinished book) finishes))
+    ap (λ shown. map Did (deeds_in (opening_acts config book)) ++ shown)
+    (run_stops (start config book) front rest (unfinished_front (opening_acts config book) (script_from (start config book) front) (opened_unfinished config book) finishes))
 
 heard_all : (config : Config) (book : Book) (events hs : List Event) → hs ≡ next_events (length hs) events → length hs ≤ length events → has_finish (script config book hs) ≡ true → run config book events ≡ run config book hs
 heard_all config book events hs brought few finishes =

@@ -12,16 +12,16 @@ use Rattle.session_engine.specs.Carries.{run}
 use Rattle.session_engine.specs.Doing.{items}
 use Rattle.session_engine.specs.declared.config.Config.{Config}
 use Rattle.session_in_memory.specs.Stores.{rehearsal_cookie}
-use Rattle.trace_replay.specs.Openings.{session_of}
+use Rattle.trace_replay.specs.Openings.{session_of, spared_of}
 use Rattle.trace_replay.specs.declared.opening.Opening.{Opening}
 
 abbrev pub or_else : {A : Type 0} → A → Option A → A
 or_else absent None = absent
 or_else absent (Some value) = value
 
--- what a trace opens with, and else what a rehearsal has: its cookie, no patience, the session `default`,
+-- what a trace opens with, and else what a rehearsal has: its cookie, no patience, the session `default`, nothing that is spared,
 abbrev pub config_of : Opening → Config
-config_of opening = record { cookie = or_else rehearsal_cookie opening.cookie; patience = or_else 0 opening.patience; session = session_of opening }
+config_of opening = record { cookie = or_else rehearsal_cookie opening.cookie; patience = or_else 0 opening.patience; session = session_of opening; spared = spared_of opening }
 
 -- and the empty book, as it stands in a store
 abbrev pub stored_of : Opening → Book

@@ -29,18 +29,20 @@ pub enum Verdict {
     Malformed { at: u64 },
 }
 
-/// The cookie that a trace opens with, or that of a rehearsal, its patience, or none, and its session,
-/// or `default`.
+/// The cookie that a trace opens with, or that of a rehearsal, its patience, or none, its session, or
+/// `default`, and the commands that are spared in it, or none.
 fn config_by(alloc: Global, opening: &Opening) -> Result<Config, NoMemory>
     ensures { IfOk result (λ config. config ≡ config_of opening.now) }
 {
     let cookie = opening.cookie.unwrap_or(REHEARSAL_COOKIE);
     let patience = opening.patience.unwrap_or(0);
     let session = Octets::from_slice(alloc, opening.session_name())?;
+    let spared = opening.spared_commands(alloc)?;
     Ok(Config {
         cookie,
         patience,
         session,
+        spared,
     })
 }
 
@@ -92,8 +94,8 @@ pub fn replay_within(alloc: Global, trace: &[u8], limit: usize) -> Result<Verdic
 /// of this run, to the byte; `started` and `unstarted` of the same command are one. A trace may stop
 /// without `end`, but not with a deed missing. Each line is tested for the grammar first.
 ///
-/// The cookie, the book, the patience and the name of the session are those with which the trace
-/// opens. A trace that opens with none is taken as one of a rehearsal.
+/// The cookie, the book, the patience, the name of the session and the spared commands are those with
+/// which the trace opens. A trace that opens with none is taken as one of a rehearsal.
 pub fn replay(alloc: Global, trace: &[u8]) -> Result<Verdict, NoMemory>
     ensures { IfOk result (Replays trace.now) }
 {

@@ -4,7 +4,6 @@ use Rattle.std.specs.Prelude.{Option, Some, None, codes}
 use Rattle.sm_world.specs.declared.events.Order.{Order}
 use Rattle.sm_world.specs.declared.events.Order.TheVariants.{Cancel, Forget}
 use Rattle.xsmp_properties.specs.Tables.{set_all}
-use Rattle.checkpoint_records.specs.declared.records.Book.{Book}
 use Rattle.checkpoint_records.specs.Rules.{client_id}
 use Rattle.round_agreement.specs.Agreement.{Agreement, conns_of}
 use Rattle.interact_queue.specs.Queue.{is_in}
@@ -18,7 +17,7 @@ use Rattle.session_model.specs.Phases.{is_owing, is_shutdown, is_unregistered}
 use Rattle.session_model.specs.Tables.{is_full}
 use Rattle.session_model.specs.Errors.{bad_id, full_table, lone_shutdown, no_room}
 use Rattle.session_model.specs.declared.events.Arrival.{Arrival}
-use Rattle.session_model.specs.Moves.{Blamed, Cancelled, Closed, Gave, History, Move, Outside, Printed, Unset, gave_each, ◌▷◌}
+use Rattle.session_model.specs.Moves.{Opening, Blamed, Cancelled, Closed, Gave, History, Move, Outside, Printed, Unset, gave_each, ◌▷◌}
 use Rattle.session_model.specs.Readings as of
 use Rattle.session_model.specs.Reading.{Reading, reading, wanted_in}
 use Rattle.session_model.specs.Books.{book_forgetting, opening_moves}
@@ -95,7 +94,7 @@ suit-said c m sequence frame h = suit-unless (reading h) c m sequence frame h (o
 
 suit-ordered : (r : Reading) (order : Order) (h : History) → AllSuit (ordered r order) h
 suit-ordered r Cancel h = suit-cond (is_shutdown (wanted_in r.rounds.running)) (Printed (codes "ok") ∷ called_off r.rounds.running) (Printed (codes "no shutdown") ∷ []) h (tt, suit-called_off r.rounds.running (Printed (codes "ok") ▷ h)) (tt, tt)
-suit-ordered r (Forget id) h = suit-light (forget r id) h (every-forget IsLight r id light-wide tt (light-discarded r.clients (book_forgetting r.store id)))
+suit-ordered r (Forget id) h = suit-light (forget r id) h (every-forget IsLight r id light-wide tt (light-discarded r (book_forgetting r.store id)))
 suit-ordered r order h = suit-light (ordered r order) h (every-ordered IsLight r order light-wide tt)
 
 -- Events
@@ -111,5 +110,5 @@ suit-reply (Tick milliseconds) h =
 
 -- The opening
 
-pub light-opening : (book : Book) → AllLight (opening_moves book)
-light-opening book = every-opening IsLight book (λ cause command. tt) (λ written. tt)
+pub light-opening : (opening : Opening) → AllLight (opening_moves opening)
+light-opening opening = every-opening IsLight opening (λ cause command. tt) (λ written. tt)

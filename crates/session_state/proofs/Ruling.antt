@@ -37,8 +37,8 @@ first-asked c cs h e = sym (phases-tell h c) ∙ ap (λ (xs : List ℕ). is_in c
 
 -- An agreement
 
-pub light-discarded : (clients : Clients) (book : Book) → AllLight (discarded clients book)
-light-discarded clients book = every-issue IsLight book (issuable (standing clients) book.pending) (λ command. tt) tt
+pub light-discarded : (r : Reading) (book : Book) → AllLight (discarded r book)
+light-discarded r book = every-issue IsLight r.store.spared book (issuable (standing r.clients) book.pending) (λ command. tt) tt
 
 -- where nobody is a member these go to no member
 suit-complete : (conns : List ℕ) (h : History) → of.members h ≡ [] → AllSuit (gave_each SaveComplete conns) h
@@ -62,14 +62,14 @@ suit-completed : (b : Bool) (clients : Clients) (round : Agreement) (book : Book
 suit-completed true clients round book h e = suit-ended clients book h e
 suit-completed false clients round book h e = suit-complete (conns_of round.members) h e
 
-suit-agreement : (clients : Clients) (round : Agreement) (book : Book) (h : History) → AllSuit (agreement_with clients round book) h
-suit-agreement clients round book h =
-    let told : List Move = completed round.wanted.shutdown clients round book in (
+suit-agreement : (r : Reading) (round : Agreement) (book : Book) (h : History) → AllSuit (agreement_with r round book) h
+suit-agreement r round book h =
+    let told : List Move = completed round.wanted.shutdown r.clients round book in (
       tt,
       (
         tt,
-        suit-append told (discarded clients book) (Agreed ▷ Committed book ▷ h) (suit-completed round.wanted.shutdown clients round book (Agreed ▷ Committed book ▷ h) refl)
-            (suit-light (discarded clients book) (onto (Agreed ▷ Committed book ▷ h) told) (light-discarded clients book)),
+        suit-append told (discarded r book) (Agreed ▷ Committed book ▷ h) (suit-completed round.wanted.shutdown r.clients round book (Agreed ▷ Committed book ▷ h) refl)
+            (suit-light (discarded r book) (onto (Agreed ▷ Committed book ▷ h) told) (light-discarded r book)),
       ),
     )
 
@@ -124,7 +124,7 @@ suit-over true h = (tt, tt)
 suit-over false h = tt
 
 suit-agreed : (b : Bool) (r : Reading) (round : Agreement) (h : History) → AllSuit (agreed_rule b r round) h
-suit-agreed true r round h = suit-agreement r.clients round (next_book r round) h
+suit-agreed true r round h = suit-agreement r round (next_book r round) h
 suit-agreed false r round h = suit-over (deserted round) h
 
 suit-running : (b : Bool) (r : Reading) (round : Agreement) (h : History) → AllSuit (running_rule b r round) h

@@ -69,6 +69,7 @@ moved-by m s h w told queued round st = record {
   counts_are = λ id. counted-step m id s.counts h (st.counts_are id);
   ending_is = λ i. of.ending_after m (w i) (st.ending_is i);
   patience_is = st.patience_is;
+  spared_is = st.spared_is;
   marks_are = λ i. of.marks_after m (w i) (st.marks_are i);
 }
 
@@ -119,7 +120,7 @@ reading-by s h held st = λ i. record {
   };
   rounds = record { running = st.round_is i; waits = st.waits_is i };
   token = record { waiting = st.waiting_is i; is_held = held i };
-  store = record { book = st.book_is i; strays = st.strays_is i };
+  store = record { book = st.book_is i; strays = st.strays_is i; spared = st.spared_is i };
   run = record {
     given = st.given_is i;
     expected = st.expected_is i;

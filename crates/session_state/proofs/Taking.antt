@@ -85,6 +85,7 @@ begins s h st = record {
     counts_are = st.counts_are;
     ending_is = st.ending_is;
     patience_is = st.patience_is;
+    spared_is = st.spared_is;
     marks_are = st.marks_are;
   };
   acts_are = sym (append-nil (all_acts h));
@@ -131,6 +132,7 @@ follows-start opening = record {
     counts_are = λ id. refl;
     ending_is = refl;
     patience_is = refl;
+    spared_is = refl;
     marks_are = refl;
   };
   acts_are = refl;
@@ -141,5 +143,5 @@ nil-before acts = refl
 
 pub openings-stand : OpeningStands
 openings-stand opening =
-    let f : Follows [] (opened_in opening) (opened opening) = follows-all [] (opening_moves opening.book) (session_of opening) (Opened opening) (suit-light (opening_moves opening.book) (Opened opening) (light-opening opening.book)) (follows-start opening) in
+    let f : Follows [] (opened_in opening) (opened opening) = follows-all [] (opening_moves opening) (session_of opening) (Opened opening) (suit-light (opening_moves opening) (Opened opening) (light-opening opening)) (follows-start opening) in
     (f.stands, sym (f.acts_are ∙ nil-before (opened_in opening).acts))

@@ -111,6 +111,8 @@ pub record Session : Type 0 where
   pub is_ending : Bool
   -- for how many milliseconds a client may be silent that is waited for
   pub patience : ℕ
+  -- the commands that are spared
+  pub spared : List Command
   pub marks : Marks
   -- what was done since the last event came, the oldest first
   pub acts : List Act
@@ -130,6 +132,7 @@ moved m s = record {
   counts = counts_after m s.counts;
   is_ending = of.ending_after m (wanted_in s.round) s.is_ending;
   patience = s.patience;
+  spared = s.spared;
   marks = of.marks_after m (wanted_in s.round) s.marks;
   acts = s.acts ++ acts_of m;
 }
@@ -145,7 +148,7 @@ reading_in s = record {
   clients = clients_in s.clients;
   rounds = record { running = s.round; waits = s.waits };
   token = record { waiting = s.turns.waiting; is_held = is_some s.turns.holder };
-  store = record { book = s.book; strays = s.strays };
+  store = record { book = s.book; strays = s.strays; spared = s.spared };
   run = record { given = s.given; expected = s.expected; respawns = λ id. counted id s.counts; is_ending = s.is_ending; patience = s.patience };
 }
 
@@ -182,9 +185,10 @@ session_of opening = record {
   counts = [];
   is_ending = false;
   patience = opening.patience;
+  spared = opening.spared;
   marks = record { begun = 0; ended = 0; agreed = 0 };
   acts = [];
 }
 
 abbrev pub opened_in : Opening → Session
-opened_in opening = moved_all (opening_moves opening.book) (session_of opening)
+opened_in opening = moved_all (opening_moves opening) (session_of opening)

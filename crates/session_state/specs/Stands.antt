@@ -32,6 +32,7 @@ pub record Stands (s : Session) (h : History) : Type 0 where
   pub counts_are : (id : List ℕ) → counted id s.counts ≡ of.respawns id h
   pub ending_is : s.is_ending ≡ of.is_ending h
   pub patience_is : s.patience ≡ of.patience h
+  pub spared_is : s.spared ≡ of.spared h
   pub marks_are : s.marks ≡ of.marks h
 
 -- a history that a run makes

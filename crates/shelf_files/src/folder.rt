@@ -1,16 +1,24 @@
-ghost use Rattle.std.specs.Prelude.{◌<◌, ◌≤◌, length, IfOk, MatchOption};
+ghost use Rattle.std.specs.Prelude.{◌≡◌, ◌<◌, ◌≤◌, length, take, IfOk, MatchOption};
+ghost use Rattle.checkpoint_records.specs.Books.{empty_book};
+ghost use Rattle.checkpoint_records.specs.Rules.{KeepsRules};
+ghost use Rattle.discard_ledger.specs.Discards.{each_once};
+ghost use Rattle.kept_books.specs.Spared.{kept_discards};
 ghost use Rattle.login_plan.specs.Books.{AreKept, IsStored};
 
 use crate::names::{FileName, is_left_over, read_name};
 use checkpoint_records::{Book, spell_book};
-use kept_books::{Kept, Shelf, file_name};
-use owned_lists::{Duplicate, NoMemory};
+use kept_books::{Kept, Shelf, file_name, spared_by};
+use owned_lists::{CommandList, Duplicate, NoMemory};
 use sm_world::Failed;
+use std::alloc::Global;
 use std::io::ErrorKind;
 use std::{fs, io};
 use store_file::replace;
 use store_login::Keeping;
 use store_view::kept_book;
+
+/// So many commands are spared at most, as many as a book can have pending.
+const SPARED_LIMIT: usize = 320;
 
 /// A file of the folder.
 #[derive(Drop)]
@@ -187,4 +195,30 @@ impl Keeping for ShelfFolder {
         }
         Ok(())
     }
+}
+
+/// The first commands that the books of a shelf name, each once.
+fn first_spared(alloc: Global, shelf: &[Kept]) -> Result<CommandList, NoMemory>
+    requires { AreKept shelf.now }
+    ensures first { IfOk result (λ commands.
+        commands ≡ take 320 (each_once (kept_discards shelf.now))) }
+    ensures rules { IfOk result (λ commands.
+        KeepsRules (record empty_book { pending = commands })) }
+{
+    let mut commands = spared_by(alloc, shelf)?.into_vec();
+    commands.truncate(SPARED_LIMIT);
+    Ok(CommandList::from_vec(commands))
+}
+
+/// The commands that a run spares while books are kept in this folder: the DiscardCommands that they
+/// name, each once, and of these the first 320, those of the book with the greatest number first. They
+/// can be the pending ones of a book. A file of which no book can be read is left out, as at a login, and
+/// told on the standard error; a folder that isn't there spares nothing. An error comes where the folder
+/// can't be read, or where memory is wanting.
+pub fn spared_in(rt: HostRuntime, path: &str) -> io::Result<CommandList>
+    ensures { IfOk result (λ commands. KeepsRules (record empty_book { pending = commands })) }
+{
+    let (folder, shelf) = ShelfFolder::open(rt, path)?;
+    drop(folder);
+    first_spared(rt.alloc(), shelf.as_slice()).map_err(no_memory)
 }

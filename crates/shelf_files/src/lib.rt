@@ -5,4 +5,5 @@ mod folder;
 mod logins;
 mod names;
 
+pub use folder::spared_in;
 pub use logins::{list_kept, log_in};

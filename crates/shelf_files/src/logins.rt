@@ -86,8 +86,8 @@ fn told_of(
     match plan {
         Plan::Ask => question(rt, over, present),
         Plan::Leave => beginning(rt, over, present),
-        Plan::Keep(book) => beginning(rt, over, book),
-        Plan::Return(_, book) => beginning(rt, over, book),
+        Plan::Keep(_, book) => beginning(rt, over, book),
+        Plan::Return(_, _, book) => beginning(rt, over, book),
     }
 }
 
@@ -171,8 +171,8 @@ fn over_damaged(
     match &plan {
         Plan::Ask => question(rt, over, &empty),
         Plan::Leave => Err(LoginFault::OfStore(fault)),
-        Plan::Keep(_) => Err(LoginFault::OfStore(fault)),
-        Plan::Return(_, _) => in_its_place(rt, over, folder),
+        Plan::Keep(_, _) => Err(LoginFault::OfStore(fault)),
+        Plan::Return(_, _, _) => in_its_place(rt, over, folder),
     }
 }
 

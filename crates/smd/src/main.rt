@@ -1,18 +1,19 @@
 //! `smd`, the session manager.
 #![tactic(auto)]
 
-ghost use Rattle.std.specs.Prelude.{◌≤◌, length};
+ghost use Rattle.std.specs.Prelude.{◌≡◌, ◌≤◌, length, IfOk};
+ghost use Rattle.session_recorder.specs.Openings.{CanBeSpared};
 ghost use Rattle.session_recorder.specs.Recorded.{IsNew};
 
 use desktop_world::{BadPlaces, DesktopWorld, Places, host_name, random_cookie};
-use owned_lists::{NoMemory, Octets};
+use owned_lists::{CommandList, NoMemory, Octets};
 use program_frame::{OwnTexts, StandardConsole, conclude, read_words};
 use program_texts::SMD;
 use quirk_world::QuirkWorld;
 use record_file::RecordFile;
 use serve_words::{ServeWords, read_serve};
 use session_recorder::{Recorder, opening_of};
-use shelf_files::{list_kept, log_in};
+use shelf_files::{list_kept, log_in, spared_in};
 use sm_world::{Console, Disk, Failure, Links, Spawner};
 use smd_app::{Identity, Paths, read_paths, smd_main};
 use std::io;
@@ -33,6 +34,7 @@ const TEXTS: OwnTexts = OwnTexts {
         \x20          --last-wait MS       closes whoever was told to die so long ago\n\
         \x20          --quirks             takes programs on Xt, Qt and twm for what they mean\n\
         \x20          --record FILE        writes what it hears and does, as a trace\n\
+        \x20          --kept FOLDER        discards no state that a book kept there names\n\
         \x20                               as: smd serve --socket s --control c --store f --authority a\n\
         \x20      smd rehearse [MS] < SCRIPT\n\
         \x20                               shows what smd does at the events of a script\n\
@@ -112,10 +114,18 @@ fn record_in(
     path: &str,
     paths: Paths<'_>,
     identity: &Identity,
-) -> Result<Record, Failure> {
+) -> Result<Record, Failure>
+    requires { CanBeSpared identity.now.spared }
+{
     let store = world.take_store(paths.store)?;
-    let session = paths.session.as_bytes();
-    let opening = opening_of(rt.alloc(), store, &identity.cookie, paths.patience, session)?;
+    let opening = opening_of(
+        rt.alloc(),
+        store,
+        &identity.cookie,
+        paths.patience,
+        paths.session.as_bytes(),
+        &identity.spared,
+    )?;
     let path = path.to_string(rt.alloc()).map_err(NoMemory::from)?;
     Ok(Record { path, opening })
 }
@@ -206,7 +216,9 @@ fn begun(
     file: Option<&str>,
     paths: Paths<'_>,
     identity: &Identity,
-) -> Result<Option<Record>, u8> {
+) -> Result<Option<Record>, u8>
+    requires { CanBeSpared identity.now.spared }
+{
     if let Some(bad) = bad_places(rt, paths, file) {
         return Err(refused(rt, bad));
     }
@@ -225,7 +237,9 @@ fn prepared(
     file: Option<&str>,
     paths: Paths<'_>,
     identity: &Identity,
-) -> Result<Option<Record>, Failure> {
+) -> Result<Option<Record>, Failure>
+    requires { CanBeSpared identity.now.spared }
+{
     world.plan_waves(paths.store, paths.session.as_bytes())?;
     match file {
         Some(file) => Ok(Some(record_in(rt, world, file, paths, identity)?)),
@@ -279,6 +293,80 @@ fn kept_status(rt: HostRuntime, words: &[String]) -> u8 {
     }
 }
 
+/// The status of a run whose kept books can't be read, which is printed.
+fn without_kept(rt: HostRuntime, error: &io::Error) -> u8 {
+    if error.kind() == ErrorKind::OutOfMemory {
+        without_memory(rt)
+    } else {
+        refused(rt, BadPlaces::Files)
+    }
+}
+
+/// The commands that are spared: what the books in a folder name, where there is one.
+fn spared(rt: HostRuntime, kept: Option<&str>) -> io::Result<CommandList>
+    ensures { IfOk result CanBeSpared }
+{
+    match kept {
+        Some(folder) => spared_in(rt, folder),
+        None => Ok(CommandList::new(rt.alloc())),
+    }
+}
+
+/// The same session manager, which spares what the books in a folder name, where there is one. An error
+/// is the status of a run that can't begin.
+fn sparing(rt: HostRuntime, identity: Identity, kept: Option<&str>) -> Result<Identity, u8>
+    requires { length identity.host ≤ 255 }
+    ensures host { IfOk result (λ sparing. length sparing.host ≤ 255) }
+    ensures spared { IfOk result (λ sparing. CanBeSpared sparing.spared) }
+{
+    match spared(rt, kept) {
+        Ok(spared) => Ok(Identity {
+            cookie: identity.cookie,
+            host: identity.host,
+            spared,
+        }),
+        Err(error) => Err(without_kept(rt, &error)),
+    }
+}
+
+/// The status of a run in this world, of which this is said.
+fn serve_world(
+    rt: HostRuntime,
+    serve: &ServeWords<'_>,
+    world: DesktopWorld,
+    identity: Identity,
+    record: Option<Record>,
+) -> u8
+    requires { length identity.host ≤ 255 }
+{
+    let words = serve.others.as_slice();
+    if serve.has_quirks {
+        serve_quirks(rt, words, world, identity, record)
+    } else {
+        serve_desktop(rt, words, world, identity, record)
+    }
+}
+
+/// The status of a session over these paths.
+fn run_over(
+    rt: HostRuntime,
+    serve: &ServeWords<'_>,
+    paths: Paths<'_>,
+    mut world: DesktopWorld,
+    identity: Identity,
+) -> u8
+    requires { length identity.host ≤ 255 }
+{
+    let identity = match sparing(rt, identity, serve.kept_path) {
+        Ok(identity) => identity,
+        Err(status) => return status,
+    };
+    match begun(rt, &mut world, serve.record_path, paths, &identity) {
+        Ok(record) => serve_world(rt, serve, world, identity, record),
+        Err(status) => status,
+    }
+}
+
 /// The status of a session of which this is said.
 fn run_session(
     rt: HostRuntime,
@@ -288,25 +376,16 @@ fn run_session(
 ) -> io::Result<u8>
     requires { length identity.host ≤ 255 }
 {
-    let words = serve.others.as_slice();
-    let paths = read_paths(rt.alloc(), words).map_err(no_memory)?;
+    let paths = read_paths(rt.alloc(), serve.others.as_slice()).map_err(no_memory)?;
     let options = LinkOptions {
         is_private: serve.is_private,
         last_wait: serve.last_wait.unwrap_or(0),
         patience: patience_of(paths),
     };
-    let mut world = DesktopWorld::with_options(rt, host, options);
-    let mut record = None;
-    if let Some(paths) = paths {
-        match begun(rt, &mut world, serve.record_path, paths, &identity) {
-            Ok(begun) => record = begun,
-            Err(status) => return Ok(status),
-        }
-    }
-    Ok(if serve.has_quirks {
-        serve_quirks(rt, words, world, identity, record)
-    } else {
-        serve_desktop(rt, words, world, identity, record)
+    let world = DesktopWorld::with_options(rt, host, options);
+    Ok(match paths {
+        Some(paths) => run_over(rt, &serve, paths, world, identity),
+        None => serve_world(rt, &serve, world, identity, None),
     })
 }
 
@@ -333,6 +412,7 @@ fn run(rt: HostRuntime, mut words: Vec<String>) -> io::Result<u8> {
     let identity = Identity {
         cookie: random_cookie(&rt)?,
         host: Octets::from_vec(Vec::from_slice(rt.alloc(), host.as_bytes())?),
+        spared: CommandList::new(rt.alloc()),
     };
     match read_serve(rt.alloc(), words).map_err(no_memory)? {
         Some(serve) => run_session(rt, serve, host, identity),

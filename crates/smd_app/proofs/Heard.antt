@@ -64,7 +64,7 @@ ended_at patience turns events hs rest parts few finishes =
     record {
       within = ap (λ es. has_finish (script patience es)) first ∙ (ap has_finish (script_stops (start patience) hs (take (turns - length hs) rest) finishes) ∙ finishes);
       same = ap (run patience) parts ∙ run_stops (start patience) hs rest finishes;
-      acts = ap (script patience) parts ∙ ap (λ acts. opening_acts empty_book ++ acts) (script_stops (start patience) hs rest finishes);
+      acts = ap (script patience) parts ∙ ap (λ acts. opening_acts (rehearsal_config patience) empty_book ++ acts) (script_stops (start patience) hs rest finishes);
     }
 
 ended_past : (patience turns : ℕ) (events hs more : List Event) → hs ≡ with_end events ++ more → length events + 1 ≤ turns → Ended patience turns events hs
@@ -73,7 +73,7 @@ ended_past patience turns events hs more parts many =
     record {
       within = ap (λ es. has_finish (script patience es)) all ∙ end_finishes (start patience) events;
       same = sym (ap (run patience) parts ∙ run_stops (start patience) (with_end events) more (end_finishes (start patience) events));
-      acts = sym (ap (script patience) parts ∙ ap (λ acts. opening_acts empty_book ++ acts) (script_stops (start patience) (with_end events) more (end_finishes (start patience) events)));
+      acts = sym (ap (script patience) parts ∙ ap (λ acts. opening_acts (rehearsal_config patience) empty_book ++ acts) (script_stops (start patience) (with_end events) more (end_finishes (start patience) events)));
     }
 
 pub ended_run : (patience turns : ℕ) (events hs : List Event) → hs ≡ next_events (length hs) events → length hs ≤ turns → has_finish (script patience hs) ≡ true → Ended patience turns events hs

@@ -6,6 +6,7 @@ use Rattle.sm_world.specs.Worlds.{steady_outside}
 use Rattle.sm_world.specs.declared.steady.SteadyWorld.{SteadyWorld}
 use Rattle.sm_world.specs.Outside.{adds, Added, Outside}
 use Rattle.sm_world.specs.declared.events.Event.{Event}
+use Rattle.owned_lists.specs.declared.commands.Command.{Command}
 use Rattle.checkpoint_records.specs.declared.records.Book.{Book}
 use Rattle.checkpoint_slots.proofs.Once.{recovers-once}
 use Rattle.session_engine.specs.Acts.{commits_in}
@@ -49,20 +50,21 @@ never_damaged config old new file turns at fresh (inl rests) = no_damage (recove
     no_damage e = cc
 never_damaged config old new file turns at fresh (inr opens) = opens.adds.holds.runs.opened
 
-abbrev made : Cookie → ℕ → List ℕ → Config
-made cookie patience session = record { cookie = cookie; patience = patience; session = session }
+abbrev made : Cookie → ℕ → List ℕ → List Command → Config
+made cookie patience session spared = record { cookie = cookie; patience = patience; session = session; spared = spared }
 
 -- the wishes for a rehearsal, by their parts
-pub set_so : (config : Config) (patience : ℕ) → config.cookie ≡ rehearsal_cookie → config.patience ≡ patience → config.session ≡ default_name → config ≡ rehearsal_config patience
-set_so config patience is_cookie is_patience is_session =
-    ap (λ (cookie : Cookie). made cookie config.patience config.session) is_cookie
-    ∙ (ap (λ (n : ℕ). made rehearsal_cookie n config.session) is_patience
-    ∙ ap (λ (name : List ℕ). made rehearsal_cookie patience name) is_session)
+pub set_so : (config : Config) (patience : ℕ) → config.cookie ≡ rehearsal_cookie → config.patience ≡ patience → config.session ≡ default_name → config.spared ≡ [] → config ≡ rehearsal_config patience
+set_so config patience is_cookie is_patience is_session is_spared =
+    ap (λ (cookie : Cookie). made cookie config.patience config.session config.spared) is_cookie
+    ∙ (ap (λ (n : ℕ). made rehearsal_cookie n config.session config.spared) is_patience
+    ∙ (ap (λ (name : List ℕ). made rehearsal_cookie patience name config.spared) is_session
+    ∙ ap (λ (spared : List Command). made rehearsal_cookie patience default_name spared) is_spared))
 
 -- A run with such wishes is a rehearsal's.
-pub rehearsed : (config : Config) (patience turns : ℕ) (old new : Outside) (answer : Result (Unit {0}) ServeFault) → config.cookie ≡ rehearsal_cookie → config.patience ≡ patience → config.session ≡ default_name → Serving config turns old new answer → Serving (rehearsal_config patience) turns old new answer
-rehearsed config patience turns old new answer is_cookie is_patience is_session serving =
-    subst (λ (set : Config). Serving set turns old new answer) (set_so config patience is_cookie is_patience is_session) serving
+pub rehearsed : (config : Config) (patience turns : ℕ) (old new : Outside) (answer : Result (Unit {0}) ServeFault) → config.cookie ≡ rehearsal_cookie → config.patience ≡ patience → config.session ≡ default_name → config.spared ≡ [] → Serving config turns old new answer → Serving (rehearsal_config patience) turns old new answer
+rehearsed config patience turns old new answer is_cookie is_patience is_session is_spared serving =
+    subst (λ (set : Config). Serving set turns old new answer) (set_so config patience is_cookie is_patience is_session is_spared) serving
 
 pub finished_run : (old : Outside) (world : SteadyWorld) (events : List Event) (patience turns : ℕ) (file : List ℕ) → IsFresh old file → old.coming ≡ Some events → Serving (rehearsal_config patience) turns old (steady_outside world) (Ok tt) → Rehearses patience events turns (record { world = world; finished = true })
 finished_run old world events patience turns file fresh is_coming opens =

@@ -21,7 +21,7 @@ use Rattle.smd_app.specs.declared.rehearsal.Rehearsal.{Rehearsal}
 
 -- the cookie of each rehearsal, and the patience of this one
 abbrev pub rehearsal_config : ℕ → Config
-rehearsal_config patience = record { cookie = rehearsal_cookie; patience = patience; session = default_name }
+rehearsal_config patience = record { cookie = rehearsal_cookie; patience = patience; session = default_name; spared = [] }
 
 -- what is read as the script: of one that is too long, one byte more than it can have
 abbrev pub script_of : List ℕ → List ℕ

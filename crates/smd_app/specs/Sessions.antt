@@ -54,9 +54,9 @@ handing_out identity places = Published places.authority (authority_file identit
 abbrev pub announcing : Identity → Places → List Effect
 announcing identity places = Printed (session_line identity places.socket) ∷ []
 
--- the cookie that clients must show, how long they may be silent, and what the session is called
+-- the cookie that clients must show, how long they may be silent, what the session is called, and what is spared in it
 abbrev pub config_of : Identity → Places → Config
-config_of identity places = record { cookie = identity.cookie; patience = places.patience; session = places.session }
+config_of identity places = record { cookie = identity.cookie; patience = places.patience; session = places.session; spared = identity.spared }
 
 -- A call on the disk failed, or memory was wanting.
 abbrev pub IsOfDisk : Outside → Outside → Fault → Type 0

@@ -9,7 +9,7 @@ use crate::fault::Fault;
 use crate::identity::Identity;
 use crate::words::Paths;
 use ice_cookie::{AuthorityEntry, AuthorityList, AuthorityRefusal, authority_bytes};
-use owned_lists::{NoMemory, Octets};
+use owned_lists::{Duplicate, NoMemory, Octets};
 use session_engine::{Config, serve};
 use sm_world::{Console, Disk, Links, Spawner};
 use std::alloc::Global;
@@ -146,6 +146,7 @@ pub fn config_for(alloc: Global, identity: &Identity, paths: &Paths<'_>) -> Resu
         cookie: identity.cookie,
         patience: paths.patience,
         session,
+        spared: identity.spared.copy()?,
     })
 }
 

@@ -5,7 +5,7 @@ ghost use Rattle.std.specs.Prelude.{◌≤◌, length};
 
 use control_lines::read_number;
 use desktop_world::{BadPlaces, DesktopWorld, Places, host_name, random_cookie};
-use owned_lists::{NoMemory, Octets};
+use owned_lists::{CommandList, NoMemory, Octets};
 use program_frame::{OwnTexts, StandardConsole, read_words};
 use program_texts::SMNEST;
 use quirk_world::QuirkWorld;
@@ -116,6 +116,7 @@ fn run(rt: HostRuntime, words: &[String]) -> io::Result<u8> {
     let identity = Identity {
         cookie: random_cookie(&rt)?,
         host: Octets::from_vec(Vec::from_slice(rt.alloc(), host.as_bytes())?),
+        spared: CommandList::new(rt.alloc()),
     };
     let mut options = link_options(rt).map_err(no_memory)?;
     if let Some(paths) = read_places(rt.alloc(), words).map_err(no_memory)? {

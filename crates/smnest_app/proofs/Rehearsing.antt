@@ -93,12 +93,12 @@ module _ (config : Config) (agent : Run Keeper) (first : List ℕ) (turns : ℕ)
 -- ---- the run
 
 -- The run began as it was configured for a rehearsal, with the agent that was made for it, and with what that says at once.
-pub begun_so : (id : List ℕ) (words : List (List ℕ)) (turns : ℕ) (old new : Outside) (config : Config) (stand : Stand) (first : List ℕ) (answer : Result (Unit {0}) ServeFault) → config.cookie ≡ rehearsal_cookie → config.patience ≡ 0 → config.session ≡ default_name
+pub begun_so : (id : List ℕ) (words : List (List ℕ)) (turns : ℕ) (old new : Outside) (config : Config) (stand : Stand) (first : List ℕ) (answer : Result (Unit {0}) ServeFault) → config.cookie ≡ rehearsal_cookie → config.patience ≡ 0 → config.session ≡ default_name → config.spared ≡ []
     → stand ≡ start_stand rehearsal_cookie id words → first ≡ greeting → Nesting config turns (run_of stand) first old new answer → Nesting (rehearsal_config 0) turns (rehearsal_agent id words) greeting old new answer
-begun_so id words turns old new config stand first answer cookie patience session is_agent is_first nesting =
+begun_so id words turns old new config stand first answer cookie patience session spared is_agent is_first nesting =
     subst (λ (said : List ℕ). Nesting (rehearsal_config 0) turns (rehearsal_agent id words) said old new answer) is_first
     (subst (λ (at : Stand). Nesting (rehearsal_config 0) turns (run_of at) first old new answer) is_agent
-    (subst (λ (set : Config). Nesting set turns (run_of stand) first old new answer) (set_so config 0 cookie patience session) nesting))
+    (subst (λ (set : Config). Nesting set turns (run_of stand) first old new answer) (set_so config 0 cookie patience session spared) nesting))
 
 pub finished_run : (id : List ℕ) (words : List (List ℕ)) (old : Outside) (world : SteadyWorld) (events : List Event) (turns : ℕ) (file : List ℕ) → IsFresh old file → old.coming ≡ Some events → Nesting (rehearsal_config 0) turns (rehearsal_agent id words) greeting old (steady_outside world) (Ok tt)
     → Rehearses id words events turns (record { world = world; finished = true })

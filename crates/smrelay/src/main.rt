@@ -35,7 +35,10 @@ fn relay(rt: HostRuntime, words: &[String], is_private: bool) -> u8 {
 
 /// Whether the words choose what a relay doesn't have.
 fn are_of_session(serve: &ServeWords<'_>) -> bool {
-    serve.has_quirks || serve.last_wait.is_some() || serve.record_path.is_some()
+    serve.has_quirks
+        || serve.last_wait.is_some()
+        || serve.record_path.is_some()
+        || serve.kept_path.is_some()
 }
 
 /// The status of a run with these words. Those that choose something else than a private door are handed

@@ -8,7 +8,7 @@ use Rattle.checkpoint_slots.specs.declared.fault.StoreFault.{StoreFault}
 use Rattle.checkpoint_slots.specs.declared.turn.Current.{Current}
 use Rattle.store_return.specs.Exchange.{Exchanges}
 use Rattle.store_return.specs.declared.faults.Fault.TheVariants.{NoMemory}
-use Rattle.store_login.specs.Carrying.{ComesTo, Gets, GetsWhereRaised, IsWhyBrokenOff}
+use Rattle.store_login.specs.Carrying.{ComesTo, Gets, GetsWhereOther, IsWhyBrokenOff}
 use Rattle.store_login.specs.declared.faults.LoginFault.{LoginFault}
 use Rattle.store_login.specs.declared.faults.LoginFault.TheVariants.{OfStore, Unkept}
 
@@ -33,18 +33,18 @@ module _ (current : Option Current) (present book : Book) where
   pub got_and_failed : (old new : Option (List Effect)) → Added old new (Gets current present book) → Added old new NothingOr
   got_and_failed old new did = record { effects = did.effects; added = did.added; holds = inr (Ok did.holds.0, did.holds.1) }
 
-  pub stays : (old : Option (List Effect)) → book.epoch ≡ present.epoch → Added old old (GetsWhereRaised current present book)
-  stays old same = nothing_added old (GetsWhereRaised current present book) (inl (refl, same))
+  pub stays : (old : Option (List Effect)) → book ≡ present → Added old old (GetsWhereOther current present book)
+  stays old same = nothing_added old (GetsWhereOther current present book) (inl (refl, same))
 
-  pub raised : (old new : Option (List Effect)) → Added old new (Gets current present book) → Added old new (GetsWhereRaised current present book)
-  raised old new did = record { effects = did.effects; added = did.added; holds = inr did.holds }
+  pub changed : (old new : Option (List Effect)) → Added old new (Gets current present book) → Added old new (GetsWhereOther current present book)
+  changed old new did = record { effects = did.effects; added = did.added; holds = inr did.holds }
 
-  failed_behind : (effects : List Effect) → GetsWhereRaised current present book effects → NothingOr effects
+  failed_behind : (effects : List Effect) → GetsWhereOther current present book effects → NothingOr effects
   failed_behind effects (inl same) = inl same.0
   failed_behind effects (inr did) = inr (Ok did.0, did.1)
 
-  pub raised_and_failed : (old new : Option (List Effect)) → Added old new (GetsWhereRaised current present book) → Added old new NothingOr
-  raised_and_failed old new did = record { effects = did.effects; added = did.added; holds = failed_behind did.effects did.holds }
+  pub changed_and_failed : (old new : Option (List Effect)) → Added old new (GetsWhereOther current present book) → Added old new NothingOr
+  changed_and_failed old new did = record { effects = did.effects; added = did.added; holds = failed_behind did.effects did.holds }
 
 -- the shelf failed, or memory was wanting
 pub shelf_failed : (current : Option Current) (old new : Outside) (fault : LoginFault) → (fault ≡ Unkept) ⊎ (fault ≡ OfStore NoMemory) → IsWhyBrokenOff current old new fault

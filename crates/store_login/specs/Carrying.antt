@@ -20,23 +20,23 @@ Gets current present book effects = (next : Option Current) × Exchanges current
 abbrev pub ComesTo : Option Current → Book → Book → List Effect → Type 0
 ComesTo current present book effects = (answer : Result (Option Current) StoreFault) × Exchanges current present book answer effects
 
--- the store gets the book, unless that has the epoch already that it has
-abbrev pub GetsWhereRaised : Option Current → Book → Book → List Effect → Type 0
-GetsWhereRaised current present book effects = ((effects ≡ []) × (book.epoch ≡ present.epoch)) ⊎ Gets current present book effects
+-- the store gets the book, unless it has it already
+abbrev pub GetsWhereOther : Option Current → Book → Book → List Effect → Type 0
+GetsWhereOther current present book effects = ((effects ≡ []) × (book ≡ present)) ⊎ Gets current present book effects
 
 -- what is written where the plan is carried out
 abbrev pub IsCarriedOut : Option Current → Book → Plan → List Effect → Type 0
 IsCarriedOut current present Ask effects = effects ≡ []
 IsCarriedOut current present Leave effects = effects ≡ []
-IsCarriedOut current present (Keep book) effects = GetsWhereRaised current present book effects
-IsCarriedOut current present (Return first book) effects = Gets current present book effects
+IsCarriedOut current present (Keep first book) effects = GetsWhereOther current present book effects
+IsCarriedOut current present (Return first back book) effects = Gets current present book effects
 
 -- what is written where it isn't: nothing, or it came to the commit
 abbrev pub IsBrokenOff : Option Current → Book → Plan → List Effect → Type 0
 IsBrokenOff current present Ask effects = effects ≡ []
 IsBrokenOff current present Leave effects = effects ≡ []
-IsBrokenOff current present (Keep book) effects = (effects ≡ []) ⊎ ComesTo current present book effects
-IsBrokenOff current present (Return first book) effects = (effects ≡ []) ⊎ ComesTo current present book effects
+IsBrokenOff current present (Keep first book) effects = (effects ≡ []) ⊎ ComesTo current present book effects
+IsBrokenOff current present (Return first back book) effects = (effects ≡ []) ⊎ ComesTo current present book effects
 
 abbrev pub Carries : Option Current → Book → Plan → Result (Unit {0}) LoginFault → List Effect → Type 0
 Carries current present plan (Ok x) effects = IsCarriedOut current present plan effects

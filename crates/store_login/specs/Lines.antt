@@ -9,6 +9,7 @@ use Rattle.shown_text.specs.Shown.{word_text}
 use Rattle.session_return.specs.Returns.{entries_back}
 use Rattle.session_return.specs.declared.returns.Which.{Which}
 use Rattle.kept_books.specs.Shelves.{entries_at}
+use Rattle.kept_books.specs.Spared.{kept_discards}
 use Rattle.kept_books.specs.declared.shelves.Kept.{Kept}
 use Rattle.login_plan.specs.Logins.{began_with, offered, starts}
 use Rattle.login_plan.specs.Plans.{which_back}
@@ -38,9 +39,13 @@ abbrev pub offer_line : List ℕ → Which → Book → Kept → List ℕ
 offer_line name which present kept =
     offer_head kept.number (starts name kept.book) (how_many is_unkept present (entries_back which kept.book)) ++ (programs_text (opening_restarts (entries_at name kept.book)) ++ 10 ∷ [])
 
+-- the store's book where what the shelf names counts as what is yet to be discarded: while it is on the shelf, its state is there
+abbrev pub beside_shelf : List Kept → Book → Book
+beside_shelf shelf present = record present { pending = present.pending ++ kept_discards shelf }
+
 -- all that may come back
 abbrev pub offer_lines : List ℕ → List Kept → Book → List ℕ
-offer_lines name shelf present = flat_map (offer_line name (which_back name shelf present) present) (offered name shelf present)
+offer_lines name shelf present = flat_map (offer_line name (which_back name shelf present) (beside_shelf shelf present)) (offered name shelf present)
 
 abbrev pub question_lines : List ℕ → List Kept → Book → List ℕ
 question_lines name shelf present = ask_line (began_with name shelf) (starts name present) ++ offer_lines name shelf present

@@ -1,17 +1,19 @@
-ghost use Rattle.std.specs.Prelude.{◌≡◌, ◌⊎◌, [], IfErr, OnErr, OnOk};
+ghost use Rattle.std.specs.Prelude.{◌≡◌, ◌⊎◌, [], IfErr, IfOk, IsTrue, OnErr, OnOk};
 ghost use Rattle.sm_world.specs.Outside.{Added};
 ghost use Rattle.checkpoint_slots.specs.Layout.{store_size};
 ghost use Rattle.login_plan.specs.Books.{HasBooks, IsStored};
 ghost use Rattle.login_plan.specs.declared.plans.Plan.TheVariants.{Keep as KeepsThis, Return as ReturnsThis};
-ghost use Rattle.store_login.specs.Carrying.{Carries, ComesTo, Gets, GetsWhereRaised, IsWhyBrokenOff};
+ghost use Rattle.store_login.specs.Carrying.{Carries, ComesTo, Gets, GetsWhereOther, IsWhyBrokenOff};
 ghost use Rattle.store_login.specs.declared.faults.LoginFault.TheVariants.{OfStore, Unkept as CannotKeep};
 ghost use Rattle.store_return.specs.declared.faults.Fault.TheVariants.{NoMemory as LacksMemory};
 
 use crate::LoginFault;
+use checkpoint_changes::delta_of;
 use checkpoint_journal::Journal;
 use checkpoint_records::Book;
 use kept_books::{KeepRefusal, Kept, Shelf, keep};
 use login_plan::Plan;
+use owned_lists::NoMemory;
 use sm_world::{Disk, Failed};
 use std::alloc::Global;
 use store_return::{Fault, exchange_books};
@@ -147,67 +149,56 @@ fn keep_and_commit<D: Disk, K: Keeping>(
     }
 }
 
-/// Keeps the book, and gives it to the store where its epoch is another.
+/// Whether the store has the book already.
+fn is_present(alloc: Global, present: &Book, book: &Book) -> Result<bool, NoMemory>
+    requires old { IsStored present.now }
+    requires new { IsStored book.now }
+    ensures { IfOk result (λ same. IsTrue same → book.now ≡ present.now) }
+{
+    let delta = delta_of(alloc, present, book)?;
+    Ok(delta.as_slice().is_empty())
+}
+
+/// Keeps the first book, and gives the other to the store where it has another.
 fn keep_present<D: Disk, K: Keeping>(
     alloc: Global,
     disk: &mut D,
     place: &mut K,
     journal: Journal,
     login: Login<'_>,
+    first: &Book,
     book: &Book,
 ) -> Result<Shelf, LoginFault>
     requires size { (D.outside disk.old).size ≡ store_size }
     requires old { IsStored login.present.now }
+    requires first { IsStored first.now }
     requires new { IsStored book.now }
     ensures ok { OnOk result (Added (D.outside disk.old).told (D.outside disk.new).told
-        (GetsWhereRaised journal login.entry.present.now book.now)) }
+        (GetsWhereOther journal login.entry.present.now book.now)) }
     ensures err { OnErr result (Added (D.outside disk.old).told (D.outside disk.new).told
         (λ effects. (effects ≡ []) ⊎ ComesTo journal login.entry.present.now book.now effects)) }
     ensures cause { IfErr result
         (IsWhyBrokenOff journal (D.outside disk.old) (D.outside disk.new)) }
 {
-    if book.epoch == login.present.epoch {
+    let same = match is_present(alloc, login.present, book) {
+        Ok(same) => same,
+        Err(NoMemory) => return Err(LoginFault::OfStore(Fault::NoMemory)),
+    };
+    if same {
         drop(journal);
-        return match put_first(alloc, place, login.session, book, login.shelf) {
+        return match put_first(alloc, place, login.session, first, login.shelf) {
             Ok(shelf) => Ok(shelf),
             Err(fault) => Err(fault),
         };
     }
-    match keep_and_commit(alloc, disk, place, journal, login, book, book) {
+    match keep_and_commit(alloc, disk, place, journal, login, first, book) {
         Ok(shelf) => Ok(shelf),
         Err(fault) => Err(fault),
     }
 }
 
-/// Keeps the book, gives it to the store where its epoch is another, and lets go what has to.
+/// Keeps the first book, gives the other to the store where it has another, and lets go what has to.
 fn stay<D: Disk, K: Keeping>(
-    alloc: Global,
-    disk: &mut D,
-    place: &mut K,
-    journal: Journal,
-    login: Login<'_>,
-    book: &Book,
-) -> Result<(), LoginFault>
-    requires size { (D.outside disk.old).size ≡ store_size }
-    requires old { IsStored login.present.now }
-    requires new { IsStored book.now }
-    ensures carries { Added (D.outside disk.old).told (D.outside disk.new).told
-        (Carries journal login.entry.present.now (KeepsThis book.now) result) }
-    ensures cause { IfErr result
-        (IsWhyBrokenOff journal (D.outside disk.old) (D.outside disk.new)) }
-{
-    let shelf = match keep_present(alloc, disk, place, journal, login, book) {
-        Ok(shelf) => shelf,
-        Err(fault) => return Err(fault),
-    };
-    match let_go(place, &shelf) {
-        Ok(()) => Ok(()),
-        Err(fault) => Err(fault),
-    }
-}
-
-/// Keeps the first book, gives the second to the store, keeps that too, and lets go what has to.
-fn come_back<D: Disk, K: Keeping>(
     alloc: Global,
     disk: &mut D,
     place: &mut K,
@@ -221,7 +212,38 @@ fn come_back<D: Disk, K: Keeping>(
     requires first { IsStored first.now }
     requires new { IsStored book.now }
     ensures carries { Added (D.outside disk.old).told (D.outside disk.new).told
-        (Carries journal login.entry.present.now (ReturnsThis first.now book.now) result) }
+        (Carries journal login.entry.present.now (KeepsThis first.now book.now) result) }
+    ensures cause { IfErr result
+        (IsWhyBrokenOff journal (D.outside disk.old) (D.outside disk.new)) }
+{
+    let shelf = match keep_present(alloc, disk, place, journal, login, first, book) {
+        Ok(shelf) => shelf,
+        Err(fault) => return Err(fault),
+    };
+    match let_go(place, &shelf) {
+        Ok(()) => Ok(()),
+        Err(fault) => Err(fault),
+    }
+}
+
+/// Keeps the first book, gives the last to the store, keeps what came back, and lets go what has to.
+fn come_back<D: Disk, K: Keeping>(
+    alloc: Global,
+    disk: &mut D,
+    place: &mut K,
+    journal: Journal,
+    login: Login<'_>,
+    first: &Book,
+    back: &Book,
+    book: &Book,
+) -> Result<(), LoginFault>
+    requires size { (D.outside disk.old).size ≡ store_size }
+    requires old { IsStored login.present.now }
+    requires first { IsStored first.now }
+    requires back { IsStored back.now }
+    requires new { IsStored book.now }
+    ensures carries { Added (D.outside disk.old).told (D.outside disk.new).told
+        (Carries journal login.entry.present.now (ReturnsThis first.now back.now book.now) result) }
     ensures cause { IfErr result
         (IsWhyBrokenOff journal (D.outside disk.old) (D.outside disk.new)) }
 {
@@ -229,7 +251,7 @@ fn come_back<D: Disk, K: Keeping>(
         Ok(shelf) => shelf,
         Err(fault) => return Err(fault),
     };
-    match keep_result(alloc, place, login.session, book, &shelf) {
+    match keep_result(alloc, place, login.session, back, &shelf) {
         Ok(()) => Ok(()),
         Err(fault) => Err(fault),
     }
@@ -263,7 +285,9 @@ pub fn carry_out<D: Disk, K: Keeping>(
             drop(journal);
             Ok(())
         }
-        Plan::Keep(book) => stay(alloc, disk, place, journal, login, book),
-        Plan::Return(first, book) => come_back(alloc, disk, place, journal, login, first, book),
+        Plan::Keep(first, book) => stay(alloc, disk, place, journal, login, first, book),
+        Plan::Return(first, back, book) => {
+            come_back(alloc, disk, place, journal, login, first, back, book)
+        }
     }
 }

@@ -1,11 +1,11 @@
 ghost use Rattle.std.specs.Prelude.{◌≡◌, ◌++◌, IfOk, OnOk, string_bytes};
 ghost use Rattle.std.specs.List.{flat_map};
-ghost use Rattle.store_login.specs.Lines.{ask_line as asked, offer_head, offer_line as line_of, offer_lines as lines_of, program_text, programs_text, question_lines as question, start_line as started};
+ghost use Rattle.store_login.specs.Lines.{ask_line as asked, beside_shelf as book_beside, offer_head, offer_line as line_of, offer_lines as lines_of, program_text, programs_text, question_lines as question, start_line as started};
 
 use checkpoint_records::{Book, choose, copy_book};
-use kept_books::Kept;
+use kept_books::{Kept, add_all, kept_discards};
 use login_plan::{began_with, offered, starts, which_back};
-use owned_lists::{Command, NoMemory, Octets};
+use owned_lists::{Command, Duplicate, NoMemory, Octets};
 use restart_plan::plan;
 use session_return::{Which, entries_back};
 use shown_text::put_word;
@@ -75,8 +75,21 @@ fn put_offer(
     out.append(b"\n")
 }
 
+/// The store's book where what the shelf names counts as what is yet to be discarded.
+fn beside_shelf(alloc: Global, shelf: &[Kept], present: &Book) -> Result<Book, NoMemory>
+    ensures { IfOk result (λ book. book ≡ book_beside shelf.now present.now) }
+{
+    let named = kept_discards(alloc, shelf)?;
+    let mut pending = present.pending.copy()?;
+    add_all(named.as_slice(), &mut pending)?;
+    let mut book = copy_book(present)?;
+    book.pending = pending;
+    Ok(book)
+}
+
 /// A line for each that may come back, the newest first: `offer`, its number, `starts` and how many
-/// programs it starts, `unkept` and of how many entries nobody keeps the state, and the programs.
+/// programs it starts, `unkept` and of how many entries neither the store's book nor the shelf keeps
+/// the state, and the programs.
 pub fn offer_lines(
     alloc: Global,
     name: &[u8],
@@ -87,8 +100,9 @@ pub fn offer_lines(
 {
     let which = which_back(alloc, name, shelf, present)?;
     let offers = offered(alloc, name, shelf, present)?;
+    let known = beside_shelf(alloc, shelf, present)?;
     let mut out = Octets::new(alloc);
-    put_offers(alloc, &mut out, name, &which, present, offers.as_slice())?;
+    put_offers(alloc, &mut out, name, &which, &known, offers.as_slice())?;
     Ok(out)
 }
 

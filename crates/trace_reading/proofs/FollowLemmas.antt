@@ -7,7 +7,7 @@ use Rattle.control_lines.specs.Lines.{lines_of}
 use Rattle.control_lines.specs.Parts.{IsWithout}
 use Rattle.control_lines.proofs.LineCuts.{lines_of-newline}
 use Rattle.trace_replay.specs.Grammar.{SaysLine, SayLines}
-use Rattle.trace_replay.specs.Openings.{BeginWith, IsBook, IsCookie, IsPatience, IsSession, Open, SaysBehind, behind_book, behind_opening, behind_patience, count_of, size_of}
+use Rattle.trace_replay.specs.Openings.{BeginWith, IsBook, IsCookie, IsPatience, IsSession, Open, SaysBehind, behind_book, behind_opening, behind_patience, behind_session, count_of, size_of}
 use Rattle.trace_replay.specs.Traces.{IsTrace}
 use Rattle.trace_replay.specs.declared.lines.TraceLine.{TraceLine}
 use Rattle.trace_replay.specs.declared.opening.Opening.{Opening}
@@ -58,11 +58,14 @@ open_and lines opening line opens nothing =
     let two = ap (drop (count_of opening.book)) one ∙ behind_and (count_of opening.book) first line (count_fits _ first opening.book opens.book) in
     let second : List (List ℕ) = behind_book opening lines in
     let three = ap (drop (count_of opening.patience)) two ∙ behind_and (count_of opening.patience) second line (count_fits _ second opening.patience opens.patience) in
+    let third : List (List ℕ) = behind_patience opening lines in
+    let four = ap (drop (count_of opening.session)) three ∙ behind_and (count_of opening.session) third line (count_fits _ third opening.session opens.session) in
     record {
       cookie = begin_and (codes "cookie ") IsCookie lines opening.cookie line opens.cookie (λ field. (nothing field).0);
       book = subst (λ ls. BeginWith (SaysBehind (codes "book ") IsBook) ls opening.book) (sym one) (begin_and (codes "book ") IsBook first opening.book line opens.book (λ field. (nothing field).1));
       patience = subst (λ ls. BeginWith (SaysBehind (codes "patience ") IsPatience) ls opening.patience) (sym two) (begin_and (codes "patience ") IsPatience second opening.patience line opens.patience (λ field. (nothing field).2));
       session = subst (λ ls. BeginWith (SaysBehind (codes "session ") IsSession) ls opening.session) (sym three) (begin_and (codes "session ") IsSession (behind_patience opening lines) opening.session line opens.session (λ field. (nothing field).3));
+      spared = subst (λ ls. BeginWith (SaysBehind (codes "spared ") IsBook) ls opening.spared) (sym four) (begin_and (codes "spared ") IsBook (behind_session opening lines) opening.spared line opens.spared (λ field. (nothing field).4));
     }
 
 behind_opening_and : (lines : List (List ℕ)) (opening : Opening) (line : List ℕ) → Open lines opening → behind_opening opening (lines ++ line ∷ []) ≡ behind_opening opening lines ++ line ∷ []

@@ -3,7 +3,7 @@ use Rattle.std.proofs.Common.{◌≡◌, ℕ, List, ◌++◌, length, codes, sym
 use Rattle.checkpoint_records.specs.declared.records.Book.{Book}
 use Rattle.message_text.proofs.Joining.{joined}
 use Rattle.message_text.specs.Words.{plain_text}
-use Rattle.trace_reading.specs.Lines.{book_words, counted, patience_told, session_told, stamp}
+use Rattle.trace_reading.specs.Lines.{book_words, counted, patience_told, session_told, spared_told, stamp}
 
 pub three : (old one two new a b c : List ℕ) → one ≡ old ++ a → two ≡ one ++ b → new ≡ two ++ c → new ≡ old ++ (a ++ (b ++ c))
 three old one two new a b c first second third = joined old a (b ++ c) one new first (joined one b c two new second third)
@@ -22,3 +22,12 @@ pub session_line : (name old one two named new : List ℕ) → one ≡ old ++ st
 session_line name old one two named new first second third last =
     let words : named ≡ one ++ (codes "smd runs the session " ++ plain_text name) = joined one (codes "smd runs the session ") (plain_text name) two named second third in
     three old one named new (stamp 0) (codes "smd runs the session " ++ plain_text name) (codes "\n") first words last
+
+pub spared_line : (book : Book) (old one two new : List ℕ) → one ≡ old ++ stamp 0 → two ≡ one ++ counted (codes "smd spares ") (length book.pending) → new ≡ two ++ codes " commands\n" → new ≡ old ++ spared_told book
+spared_line book old one two new first second third =
+    let words : List ℕ = counted (codes "smd spares ") (length book.pending) in
+    three old one two new (stamp 0) words (codes " commands\n") first second third
+    ∙ ap (λ (ls : List ℕ). old ++ (stamp 0 ++ ls)) (sym (append_assoc words (codes " commands") (codes "\n")))
+
+pub four : (old one two three' new a b c d : List ℕ) → one ≡ old ++ a → two ≡ one ++ b → three' ≡ two ++ c → new ≡ three' ++ d → new ≡ old ++ (a ++ (b ++ (c ++ d)))
+four old one two three' new a b c d first second third fourth = three old one two new a b (c ++ d) first second (joined two c d three' new third fourth)

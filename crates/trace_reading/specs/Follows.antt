@@ -23,7 +23,8 @@ scene_from scene (said ∷ others) = scene_from (scene_behind scene said) others
 
 -- no line of an opening
 abbrev pub OpensNothing : List ℕ → Type 0
-OpensNothing line = (field : List ℕ) → (line ≢ codes "cookie " ++ field) × (line ≢ codes "book " ++ field) × (line ≢ codes "patience " ++ field) × (line ≢ codes "session " ++ field)
+OpensNothing line =
+    (field : List ℕ) → (line ≢ codes "cookie " ++ field) × (line ≢ codes "book " ++ field) × (line ≢ codes "patience " ++ field) × (line ≢ codes "session " ++ field) × (line ≢ codes "spared " ++ field)
 
 -- So far there are lines of the opening alone, and nothing was told.
 pub record HasOpening (lines : List (List ℕ)) (text : List ℕ) (follower : Follower) : Type 0 where

@@ -68,7 +68,7 @@ started_told clock succeeded text = line_at clock (start_words succeeded ++ comm
 abbrev pub counted : List ℕ → ℕ → List ℕ
 counted words n = words ++ decimal n
 
--- what the session begins with: its part of the book, the patience, and its name
+-- what the session begins with: its part of the book, the patience, its name, and how many commands are spared
 abbrev pub book_words : Book → List ℕ
 book_words book =
     counted (codes "smd opens the book of epoch ") book.epoch ++ (counted (codes ": clients ") (length book.entries) ++ counted (codes ", pending commands ") (length book.pending))
@@ -82,10 +82,14 @@ patience_told milliseconds = line_at 0 (counted (codes "smd has a patience of ")
 abbrev pub session_told : List ℕ → List ℕ
 session_told name = line_at 0 (codes "smd runs the session " ++ plain_text name)
 
+abbrev pub spared_told : Book → List ℕ
+spared_told book = line_at 0 (counted (codes "smd spares ") (length book.pending) ++ codes " commands")
+
 -- a line, where there is something to tell
 abbrev pub if_said : {A : Type 0} → (A → List ℕ) → Option A → List ℕ
 if_said line None = []
 if_said line (Some value) = line value
 
 abbrev pub opening_told : Opening → List ℕ
-opening_told opening = if_said book_told (book_opened opening) ++ (if_said patience_told opening.patience ++ if_said session_told opening.session)
+opening_told opening =
+    if_said book_told (book_opened opening) ++ (if_said patience_told opening.patience ++ (if_said session_told opening.session ++ if_said spared_told opening.spared))

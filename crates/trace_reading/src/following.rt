@@ -24,6 +24,7 @@ fn opens(line: &[u8]) -> bool
         || line.strip_prefix(b"book ").is_some()
         || line.strip_prefix(b"patience ").is_some()
         || line.strip_prefix(b"session ").is_some()
+        || line.strip_prefix(b"spared ").is_some()
 }
 
 impl Follower {

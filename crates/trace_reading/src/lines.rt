@@ -2,7 +2,7 @@ ghost use Rattle.std.specs.Prelude.{◌≡◌, ◌+◌, ◌%◌, ◌++◌, codes
 ghost use Rattle.message_text.specs.Words.{quoted};
 ghost use Rattle.control_lines.specs.Orders.{order_text};
 ghost use Rattle.trace_replay.specs.Openings.{book_opened};
-ghost use Rattle.trace_reading.specs.Lines.{book_told, book_words, counted, deed_told, if_said, line_at, opening_told, part_told, patience_told, session_told, stamp, started_told, who};
+ghost use Rattle.trace_reading.specs.Lines.{book_told, book_words, counted, deed_told, if_said, line_at, opening_told, part_told, patience_told, session_told, spared_told, stamp, started_told, who};
 
 use crate::commands::put_command;
 use checkpoint_records::Book;
@@ -252,11 +252,25 @@ fn put_session(alloc: Global, out: &mut Octets, opening: &Opening) -> Result<(),
     out.append(b"\n")
 }
 
+/// Appends how many commands are spared, where that is said.
+fn put_spared(alloc: Global, out: &mut Octets, opening: &Opening) -> Result<(), NoMemory>
+    ensures { OnOk result (out.new ≡ out.old ++ if_said spared_told opening.now.spared) }
+{
+    let Some(book) = &opening.spared else {
+        return Ok(());
+    };
+    let commands = book.pending.as_slice().len() as u64;
+    put_stamp(alloc, out, 0)?;
+    put_counted(alloc, out, "smd spares ", commands)?;
+    out.append(b" commands\n")
+}
+
 /// Appends what a session begins with.
 pub fn put_opening(alloc: Global, out: &mut Octets, opening: &Opening) -> Result<(), NoMemory>
     ensures { OnOk result (out.new ≡ out.old ++ opening_told opening.now) }
 {
     put_opened(alloc, out, opening)?;
     put_patience(alloc, out, opening)?;
-    put_session(alloc, out, opening)
+    put_session(alloc, out, opening)?;
+    put_spared(alloc, out, opening)
 }

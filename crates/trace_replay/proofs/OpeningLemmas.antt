@@ -12,7 +12,7 @@ use Rattle.checkpoint_records.proofs.BookLaws.{stands_for_one}
 use Rattle.ice_cookie.specs.declared.cookies.Cookie.{Cookie}
 use Rattle.control_lines.specs.Fields.{IsHex}
 use Rattle.control_lines.specs.Laws.{MeansOne}
-use Rattle.trace_replay.specs.Openings.{BeginWith, FirstIs, IsBook, IsCookie, IsPatience, IsSession, Open, SaysBehind, SaysBook, SaysCookie, SaysPatience, SaysSession, SpellsBook, behind_book, behind_cookie, behind_opening, behind_patience, count_of, session_of, size_of}
+use Rattle.trace_replay.specs.Openings.{BeginWith, FirstIs, IsBook, IsCookie, IsPatience, IsSession, Open, SaysBehind, SaysBook, SaysCookie, SaysPatience, SaysSession, SaysSpared, SpellsBook, behind_book, behind_cookie, behind_opening, behind_patience, behind_session, count_of, session_of, size_of}
 use Rattle.trace_replay.specs.declared.opening.Opening.{Opening}
 
 -- ---- the first line
@@ -97,6 +97,7 @@ open_front xs ys opening opens few =
     let b = count_of opening.book in
     let p = count_of opening.patience in
     let s = count_of opening.session in
+    let k = count_of opening.spared in
     let first : drop c (xs ++ ys) ≡ drop c xs ++ ys = drop_front c xs ys (omega (arith, few)) in
     let size : length (drop c xs) + c ≡ length xs = length-drop_one opening.cookie xs (omega (arith, few)) in
     let second : drop b (drop c xs ++ ys) ≡ drop b (drop c xs) ++ ys = drop_front b (drop c xs) ys (omega (arith, few, size)) in
@@ -104,16 +105,20 @@ open_front xs ys opening opens few =
     let third : drop p (drop b (drop c xs) ++ ys) ≡ drop p (drop b (drop c xs)) ++ ys = drop_front p (drop b (drop c xs)) ys (omega (arith, few, size, size')) in
     let size'' : length (drop p (drop b (drop c xs))) + p ≡ length (drop b (drop c xs)) = length-drop_one opening.patience (drop b (drop c xs)) (omega (arith, few, size, size')) in
     let fourth : drop s (drop p (drop b (drop c xs)) ++ ys) ≡ drop s (drop p (drop b (drop c xs))) ++ ys = drop_front s (drop p (drop b (drop c xs))) ys (omega (arith, few, size, size', size'')) in
+    let size''' : length (drop s (drop p (drop b (drop c xs)))) + s ≡ length (drop p (drop b (drop c xs))) = length-drop_one opening.session (drop p (drop b (drop c xs))) (omega (arith, few, size, size', size'')) in
+    let fifth : drop k (drop s (drop p (drop b (drop c xs))) ++ ys) ≡ drop k (drop s (drop p (drop b (drop c xs)))) ++ ys = drop_front k (drop s (drop p (drop b (drop c xs)))) ys (omega (arith, few, size, size', size'', size''')) in
     let both : drop b (drop c (xs ++ ys)) ≡ drop b (drop c xs) ++ ys = ap (drop b) first ∙ second in
     let all : drop p (drop b (drop c (xs ++ ys))) ≡ drop p (drop b (drop c xs)) ++ ys = ap (drop p) both ∙ third in
+    let whole : drop s (drop p (drop b (drop c (xs ++ ys)))) ≡ drop s (drop p (drop b (drop c xs))) ++ ys = ap (drop s) all ∙ fourth in
     record {
       opens = record {
         cookie = begin_front SaysCookie xs ys opening.cookie opens.cookie (omega (arith, few));
         book = begin_front SaysBook (drop c xs) ys opening.book (subst (λ (ls : List (List ℕ)). BeginWith SaysBook ls opening.book) first opens.book) (omega (arith, few, size));
         patience = begin_front SaysPatience (drop b (drop c xs)) ys opening.patience (subst (λ (ls : List (List ℕ)). BeginWith SaysPatience ls opening.patience) both opens.patience) (omega (arith, few, size, size'));
         session = begin_front SaysSession (drop p (drop b (drop c xs))) ys opening.session (subst (λ (ls : List (List ℕ)). BeginWith SaysSession ls opening.session) all opens.session) (omega (arith, few, size, size', size''));
+        spared = begin_front SaysSpared (drop s (drop p (drop b (drop c xs)))) ys opening.spared (subst (λ (ls : List (List ℕ)). BeginWith SaysSpared ls opening.spared) whole opens.spared) (omega (arith, few, size, size', size'', size'''));
       };
-      behind = ap (drop s) all ∙ fourth;
+      behind = ap (drop k) whole ∙ fifth;
     }
 
 -- what a front of the lines opens with, and what stands behind that
@@ -131,11 +136,14 @@ open_cut xs ys opening opens =
     let three = begin_cut SaysPatience (drop (count_of two.0) (drop (count_of one.0) xs)) two.2.0 opening.patience (subst (λ (ls : List (List ℕ)). BeginWith SaysPatience ls opening.patience) both opens.patience) in
     let all : behind_patience opening (xs ++ ys) ≡ drop (count_of three.0) (drop (count_of two.0) (drop (count_of one.0) xs)) ++ three.2.0 = ap (drop (count_of opening.patience)) both ∙ three.2.1 in
     let four = begin_cut SaysSession (drop (count_of three.0) (drop (count_of two.0) (drop (count_of one.0) xs))) three.2.0 opening.session (subst (λ (ls : List (List ℕ)). BeginWith SaysSession ls opening.session) all opens.session) in
+    let front : List (List ℕ) = drop (count_of four.0) (drop (count_of three.0) (drop (count_of two.0) (drop (count_of one.0) xs))) in
+    let whole : behind_session opening (xs ++ ys) ≡ front ++ four.2.0 = ap (drop (count_of opening.session)) all ∙ four.2.1 in
+    let five = begin_cut SaysSpared front four.2.0 opening.spared (subst (λ (ls : List (List ℕ)). BeginWith SaysSpared ls opening.spared) whole opens.spared) in
     record {
-      less = record { cookie = one.0; book = two.0; patience = three.0; session = four.0 };
-      opens = record { cookie = one.1; book = two.1; patience = three.1; session = four.1 };
-      others = four.2.0;
-      behind = ap (drop (count_of opening.session)) all ∙ four.2.1;
+      less = record { cookie = one.0; book = two.0; patience = three.0; session = four.0; spared = five.0 };
+      opens = record { cookie = one.1; book = two.1; patience = three.1; session = four.1; spared = five.1 };
+      others = five.2.0;
+      behind = ap (drop (count_of opening.spared)) whole ∙ five.2.1;
     }
 
 -- ---- one opening
@@ -159,8 +167,8 @@ one_patience field one other is is' = decimal_injective one other is.2 is'.2 (sy
 one_session : (field : List ℕ) → MeansOne (IsSession field)
 one_session field one other is is' = sym is.0 ∙ is'.0
 
-abbrev opening_of : Option Cookie → Option Book → Option ℕ → Option (List ℕ) → Opening
-opening_of cookie book patience session = record { cookie = cookie; book = book; patience = patience; session = session }
+abbrev opening_of : Option Cookie → Option Book → Option ℕ → Option (List ℕ) → Option Book → Opening
+opening_of cookie book patience session spared = record { cookie = cookie; book = book; patience = patience; session = session; spared = spared }
 
 pub one_opening : (lines : List (List ℕ)) → MeansOne (Open lines)
 one_opening lines one other opens opens' =
@@ -171,7 +179,13 @@ one_opening lines one other opens opens' =
     let p : one.patience ≡ other.patience = one_begin (codes "patience ") IsPatience one_patience (drop (count_of one.book) (drop (count_of one.cookie) lines)) one.patience other.patience opens.patience later in
     let last = rw (sym c, sym b, sym p) at opens'.session in
     let s : one.session ≡ other.session = one_begin (codes "session ") IsSession one_session (behind_patience one lines) one.session other.session opens.session last in
-    ap (λ x. opening_of x one.book one.patience one.session) c ∙ (ap (λ x. opening_of other.cookie x one.patience one.session) b ∙ (ap (λ x. opening_of other.cookie other.book x one.session) p ∙ ap (opening_of other.cookie other.book other.patience) s))
+    let least = rw (sym c, sym b, sym p, sym s) at opens'.spared in
+    let k : one.spared ≡ other.spared = one_begin (codes "spared ") IsBook one_book (behind_session one lines) one.spared other.spared opens.spared least in
+    ap (λ x. opening_of x one.book one.patience one.session one.spared) c
+    ∙ (ap (λ x. opening_of other.cookie x one.patience one.session one.spared) b
+    ∙ (ap (λ x. opening_of other.cookie other.book x one.session one.spared) p
+    ∙ (ap (λ x. opening_of other.cookie other.book other.patience x one.spared) s
+    ∙ ap (opening_of other.cookie other.book other.patience other.session) k)))
 
 -- ---- how many lines an opening has
 
@@ -187,7 +201,8 @@ behind_is opening lines =
     let b = count_of opening.book in
     let p = count_of opening.patience in
     let s = count_of opening.session in
-    ap (drop s) (ap (drop p) (drop-drop b c lines) ∙ drop-drop p (c + b) lines) ∙ drop-drop s (c + b + p) lines
+    let k = count_of opening.spared in
+    ap (drop k) (ap (drop s) (ap (drop p) (drop-drop b c lines) ∙ drop-drop p (c + b) lines) ∙ drop-drop s (c + b + p) lines) ∙ drop-drop k (c + b + p + s) lines
 
 pub opening_parts : (opening : Opening) (lines : List (List ℕ)) → lines ≡ take (size_of opening) lines ++ behind_opening opening lines
 opening_parts opening lines = sym (ap (λ behind. take (size_of opening) lines ++ behind) (behind_is opening lines) ∙ take-append-drop (size_of opening) lines)
@@ -202,7 +217,9 @@ opening_fits opening lines opens =
     let p = count_of opening.patience in
     let three = begin_count SaysPatience (drop b (drop c lines)) opening.patience opens.patience in
     let four = begin_count SaysSession (drop p (drop b (drop c lines))) opening.session opens.session in
-    omega (arith, one, two, three, four, length-drop c lines, length-drop b (drop c lines), length-drop p (drop b (drop c lines)))
+    let s = count_of opening.session in
+    let five = begin_count SaysSpared (drop s (drop p (drop b (drop c lines)))) opening.spared opens.spared in
+    omega (arith, one, two, three, four, five, length-drop c lines, length-drop b (drop c lines), length-drop p (drop b (drop c lines)), length-drop s (drop p (drop b (drop c lines))))
 
 pub opening_length : (opening : Opening) (lines : List (List ℕ)) → Open lines opening → length (take (size_of opening) lines) ≡ size_of opening
 opening_length opening lines opens = length-take-le (size_of opening) lines (opening_fits opening lines opens)
@@ -212,14 +229,14 @@ pub no_patience : (field : List ℕ) (n : ℕ) → field ≡ decimal n → n ≡
 no_patience field n spelled none value is =
     let same : value ≡ n = decimal_injective value n is.2 (omega (arith, none)) (sym is.0 ∙ spelled) in omega (arith, same, none, is.1)
 
--- the book that the bytes of a field spell
-pub book_by : {E : Type 0} (lines : List (List ℕ)) (field bytes : List ℕ) (result : Result (Option Book) E) → FirstIs lines (codes "book ") field → IsHex field bytes
+-- the book that the bytes of a field spell behind a word
+pub book_by : {E : Type 0} (word : List ℕ) (lines : List (List ℕ)) (field bytes : List ℕ) (result : Result (Option Book) E) → FirstIs lines word field → IsHex field bytes
     → IfOk result (λ found. MatchOption found ((book : Book) → SpellsBook bytes book → book.epoch < 4294967295 → ⊥) (λ book. SpellsBook bytes book × (book.epoch < 4294967295)))
-    → IfOk result (BeginWith SaysBook lines)
-book_by lines field bytes (Err e) first hex read = tt
-book_by lines field bytes (Ok None) first hex read =
-    begins_none (codes "book ") IsBook lines field first (λ book is. read book (subst (λ (b : List ℕ). SpellsBook b book) (same_hex field is.bytes bytes is.hex hex) is.spells) is.below)
-book_by lines field bytes (Ok (Some book)) first hex read = begins_so (codes "book ") IsBook lines field book first (record { bytes = bytes; hex = hex; spells = read.0; below = read.1 })
+    → IfOk result (BeginWith (SaysBehind word IsBook) lines)
+book_by word lines field bytes (Err e) first hex read = tt
+book_by word lines field bytes (Ok None) first hex read =
+    begins_none word IsBook lines field first (λ book is. read book (subst (λ (b : List ℕ). SpellsBook b book) (same_hex field is.bytes bytes is.hex hex) is.spells) is.below)
+book_by word lines field bytes (Ok (Some book)) first hex read = begins_so word IsBook lines field book first (record { bytes = bytes; hex = hex; spells = read.0; below = read.1 })
 
 -- a trace that names no session has the one that is meant then
 pub session_meant : (opening : Opening) → opening.session ≡ None → codes "default" ≡ session_of opening

@@ -1,6 +1,8 @@
--- What a trace opens with: the cookie, the book, the patience and the name of its session, each in a line of its own.
+-- What a trace opens with: the cookie, the book, the patience, the name of its session and what is spared in it, each in a line of its
+-- own.
 use Rattle.std.specs.Prelude.{◌≡◌, ℕ, ◌+◌, ◌<◌, ◌≤◌, ◌^◌, List, [], ◌∷◌, ◌++◌, length, drop, codes, Option, Some, None, option_map, unwrap_or}
 use Rattle.std.specs.Fmt.{decimal}
+use Rattle.owned_lists.specs.declared.commands.Command.{Command}
 use Rattle.checkpoint_records.specs.Books.{choose, default_name}
 use Rattle.checkpoint_records.specs.Rules.{IsName}
 use Rattle.checkpoint_records.specs.Spelling.{Spells}
@@ -49,6 +51,10 @@ SaysPatience line n = SaysBehind (codes "patience ") IsPatience line n
 abbrev pub SaysSession : List ℕ → List ℕ → Type 0
 SaysSession line name = SaysBehind (codes "session ") IsSession line name
 
+-- a book whose pending commands are spared
+abbrev pub SaysSpared : List ℕ → Book → Type 0
+SaysSpared line book = SaysBehind (codes "spared ") IsBook line book
+
 -- The first of these lines is the word and this field.
 abbrev pub FirstIs : List (List ℕ) → List ℕ → List ℕ → Type 0
 FirstIs lines word field = (others : List (List ℕ)) × (lines ≡ (word ++ field) ∷ others)
@@ -65,7 +71,7 @@ abbrev pub count_of : {A : Type 0} → Option A → ℕ
 count_of None = 0
 count_of (Some value) = 1
 
--- the lines behind the cookie, behind the book, and behind the patience, as far as they are there
+-- the lines behind the cookie, behind the book, behind the patience, and behind the session, as far as they are there
 abbrev pub behind_cookie : Opening → List (List ℕ) → List (List ℕ)
 behind_cookie opening lines = drop (count_of opening.cookie) lines
 
@@ -75,20 +81,25 @@ behind_book opening lines = drop (count_of opening.book) (behind_cookie opening 
 abbrev pub behind_patience : Opening → List (List ℕ) → List (List ℕ)
 behind_patience opening lines = drop (count_of opening.patience) (behind_book opening lines)
 
--- The lines open with these: the cookie first, then the book, then the patience, then the session, as far as they are there.
+abbrev pub behind_session : Opening → List (List ℕ) → List (List ℕ)
+behind_session opening lines = drop (count_of opening.session) (behind_patience opening lines)
+
+-- The lines open with these: the cookie first, then the book, then the patience, then the session, then what is spared, as far as they are
+-- there.
 pub record Open (lines : List (List ℕ)) (opening : Opening) : Type 0 where
   pub cookie : BeginWith SaysCookie lines opening.cookie
   pub book : BeginWith SaysBook (behind_cookie opening lines) opening.book
   pub patience : BeginWith SaysPatience (behind_book opening lines) opening.patience
   pub session : BeginWith SaysSession (behind_patience opening lines) opening.session
+  pub spared : BeginWith SaysSpared (behind_session opening lines) opening.spared
 
 -- how many lines an opening has
 abbrev pub size_of : Opening → ℕ
-size_of opening = count_of opening.cookie + count_of opening.book + count_of opening.patience + count_of opening.session
+size_of opening = count_of opening.cookie + count_of opening.book + count_of opening.patience + count_of opening.session + count_of opening.spared
 
 -- the lines behind an opening
 abbrev pub behind_opening : Opening → List (List ℕ) → List (List ℕ)
-behind_opening opening lines = drop (count_of opening.session) (behind_patience opening lines)
+behind_opening opening lines = drop (count_of opening.spared) (behind_session opening lines)
 
 -- The session
 
@@ -111,3 +122,14 @@ HasRoom opening = AreFewOthers (book_opened opening)
 -- which line has the book
 abbrev pub line_of_book : Opening → ℕ
 line_of_book opening = count_of opening.cookie + 1
+
+-- What is spared
+
+-- the pending commands of a book, where there is one
+abbrev pub pending_in : Option Book → List Command
+pending_in None = []
+pending_in (Some book) = book.pending
+
+-- the commands that are spared in the session of a trace
+abbrev pub spared_of : Opening → List Command
+spared_of opening = pending_in opening.spared

@@ -2,12 +2,12 @@ ghost use Rattle.std.specs.Prelude.{◌≡◌, ◌≢◌, ◌<◌, drop, ℕ, Li
 ghost use Rattle.checkpoint_records.specs.Books.{choose as choose_of};
 ghost use Rattle.control_lines.specs.Lines.{lines_of};
 ghost use Rattle.checkpoint_records.specs.declared.records.Book.{Book as AnyBook};
-ghost use Rattle.trace_replay.specs.Openings.{BeginWith, FirstIs, HasRoom, Open, SaysBook, SpellsBook, SaysCookie, SaysPatience, SaysSession, behind_opening, book_opened as opened_by, count_of, line_of_book, session_of, size_of};
+ghost use Rattle.trace_replay.specs.Openings.{BeginWith, FirstIs, HasRoom, IsBook, Open, SaysBehind, SpellsBook, SaysCookie, SaysPatience, SaysSession, behind_opening, book_opened as opened_by, count_of, line_of_book, session_of, size_of, spared_of};
 
 use checkpoint_records::{Book, BookRefusal, choose, copy_book, is_name, read_book};
 use control_lines::{next_line, read_hex, read_number};
 use ice_cookie::Cookie;
-use owned_lists::{NoMemory, Octets};
+use owned_lists::{CommandList, Duplicate, NoMemory, Octets};
 use std::alloc::Global;
 
 /// So many sessions may stand in a book beside the one that runs.
@@ -24,6 +24,8 @@ pub struct Opening {
     pub patience: Option<u64>,
     /// `session NAME`, of 1 to 64 bytes from `!` to `~`.
     pub session: Option<Octets>,
+    /// `spared HEX`, the spelling of such a book, whose pending commands are spared.
+    pub spared: Option<Book>,
 }
 
 /// What stands behind a word in the first line of a text, where that line begins with it.
@@ -93,11 +95,11 @@ fn book_of(alloc: Global, bytes: &[u8]) -> Result<Option<Book>, NoMemory>
     }
 }
 
-/// The book that a text opens with.
-fn read_opened_book(alloc: Global, text: &[u8]) -> Result<Option<Book>, NoMemory>
-    ensures { IfOk result (BeginWith SaysBook (lines_of text.now)) }
+/// The book that stands behind a word in the first line of a text.
+fn read_opened_book(alloc: Global, text: &[u8], word: &[u8]) -> Result<Option<Book>, NoMemory>
+    ensures { IfOk result (BeginWith (SaysBehind word.now IsBook) (lines_of text.now)) }
 {
-    let Some(field) = first_field(text, b"book ") else {
+    let Some(field) = first_field(text, word) else {
         return Ok(None);
     };
     match read_hex(alloc, field)? {
@@ -138,23 +140,26 @@ fn read_session(alloc: Global, text: &[u8]) -> Result<Option<Octets>, NoMemory>
     Ok(Some(name))
 }
 
-/// What a text opens with: the cookie first, then the book, then the patience, then the session, as
-/// far as they are there.
+/// What a text opens with: the cookie first, then the book, then the patience, then the session, then
+/// what is spared, as far as they are there.
 pub fn read_opening(alloc: Global, text: &[u8]) -> Result<Opening, NoMemory>
     ensures { IfOk result (Open (lines_of text.now)) }
 {
     let cookie = read_cookie(alloc, text)?;
     let behind_cookie = behind(text, &cookie);
-    let book = read_opened_book(alloc, behind_cookie)?;
+    let book = read_opened_book(alloc, behind_cookie, b"book ")?;
     let behind_book = behind(behind_cookie, &book);
     let patience = read_patience(alloc, behind_book)?;
     let behind_patience = behind(behind_book, &patience);
     let session = read_session(alloc, behind_patience)?;
+    let behind_session = behind(behind_patience, &session);
+    let spared = read_opened_book(alloc, behind_session, b"spared ")?;
     Ok(Opening {
         cookie,
         book,
         patience,
         session,
+        spared,
     })
 }
 
@@ -175,6 +180,7 @@ impl Opening {
             + u64::from(self.book.is_some())
             + u64::from(self.patience.is_some())
             + u64::from(self.session.is_some())
+            + u64::from(self.spared.is_some())
     }
 
     /// The name of its session: `default` where it says none.
@@ -184,6 +190,16 @@ impl Opening {
         match &self.session {
             Some(name) => name.as_slice(),
             None => b"default",
+        }
+    }
+
+    /// The commands that are spared in its session: none where it says none.
+    pub fn spared_commands(&self, alloc: Global) -> Result<CommandList, NoMemory>
+        ensures { IfOk result (λ commands. commands ≡ spared_of self.now) }
+    {
+        match &self.spared {
+            Some(book) => book.pending.copy(),
+            None => Ok(CommandList::new(alloc)),
         }
     }
 
@@ -225,6 +241,7 @@ impl Opening {
         let behind_cookie = behind(text, &self.cookie);
         let behind_book = behind(behind_cookie, &self.book);
         let behind_patience = behind(behind_book, &self.patience);
-        behind(behind_patience, &self.session)
+        let behind_session = behind(behind_patience, &self.session);
+        behind(behind_session, &self.spared)
     }
 }

@@ -8,7 +8,7 @@ ghost use Rattle.checkpoint_records.specs.Rules.{IsName};
 use crate::words::{bytes_of, digits_of};
 use checkpoint_records::is_name;
 use event_script::{ScriptFault, Taken, read_script};
-use owned_lists::{NoMemory, NumberList, Octets};
+use owned_lists::{CommandList, NoMemory, NumberList, Octets};
 use session_engine::{Config, config_of_default, serve};
 use session_in_memory::{REHEARSAL_COOKIE, blank_store};
 use sm_world::{EventList, MemWorld};
@@ -29,6 +29,7 @@ pub fn config(alloc: Global, session: &Session) -> Result<Config, NoMemory>
         cookie: REHEARSAL_COOKIE,
         patience: 0,
         session,
+        spared: CommandList::new(alloc),
     })
 }
 

@@ -4,7 +4,7 @@ use checkpoint_records::Book;
 use client_machine::{Client, ClientAct, ClientPhase, Request};
 use ice_values::{Array8List, ErrorBody, ErrorClass};
 use manager_machine::{Act, Acts, Manager, SessionEvent};
-use owned_lists::{NoMemory, Octets};
+use owned_lists::{CommandList, NoMemory, Octets};
 use session_model::Phase;
 use sm_world::{Conn, Order};
 use std::alloc::{Alloc, Global};
@@ -150,7 +150,12 @@ impl Company {
         patience: u64,
     ) -> Result<Company, Fail> {
         let alloc = rt.alloc();
-        let (manager, _acts) = Manager::begin(alloc, Book::empty(alloc)?, patience)?;
+        let (manager, _acts) = Manager::begin(
+            alloc,
+            Book::empty(alloc)?,
+            patience,
+            CommandList::new(alloc),
+        )?;
         Ok(Company {
             manager,
             seats: Vec::new(alloc),

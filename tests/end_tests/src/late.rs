@@ -4,7 +4,7 @@
 use checkpoint_records::Book;
 use late_answers::{Late, Outgoing, Word};
 use manager_machine::{Act, Acts, Manager, SessionEvent};
-use owned_lists::Octets;
+use owned_lists::{CommandList, Octets};
 use session_model::Phase;
 use sm_world::{Conn, Order};
 use std::alloc::{Alloc, Global};
@@ -299,7 +299,12 @@ impl Seat {
 impl Desk {
     fn new(rt: &(impl Abort + Alloc<A = Global>), habits: [Habit; 2]) -> Result<Desk, Fail> {
         let alloc = rt.alloc();
-        let (manager, _acts) = Manager::begin(alloc, Book::empty(alloc)?, 120_000)?;
+        let (manager, _acts) = Manager::begin(
+            alloc,
+            Book::empty(alloc)?,
+            120_000,
+            CommandList::new(alloc),
+        )?;
         let mut desk = Desk {
             manager,
             seats: Vec::new(alloc),

@@ -2,7 +2,7 @@
 
 use crate::dice::Dice;
 use crate::guests::{COOKIE, Guest};
-use owned_lists::{NumberList, Octets};
+use owned_lists::{CommandList, NumberList, Octets};
 use session_engine::{Config, Session, Stepped};
 use session_in_memory::blank_store;
 use sm_world::{Conn, Effect, Event, EventList, MemWorld, Order};
@@ -96,6 +96,7 @@ impl Sitting {
             cookie: COOKIE,
             patience,
             session: Octets::from_slice(alloc, name)?,
+            spared: CommandList::new(alloc),
         };
         match Session::start(alloc, &mut self.world, config) {
             Ok(session) => self.session = Some(session),

@@ -5,7 +5,7 @@ ghost use Rattle.checkpoint_records.specs.Rules.{IsName};
 
 use checkpoint_records::is_name;
 use ice_cookie::Cookie;
-use owned_lists::{NoMemory, Octets};
+use owned_lists::{CommandList, NoMemory, Octets};
 use session_engine::{Config, ServeFault, at_most_64_live, config_of_default, serve};
 use sm_world::{Effect, Event, EventList, Order, SteadyWorld};
 use std::alloc::Global;
@@ -32,6 +32,7 @@ pub fn config_called(alloc: Global, name: &[u8]) -> Result<Config, NoMemory>
         cookie: Cookie([7; 16]),
         patience: 0,
         session,
+        spared: CommandList::new(alloc),
     })
 }
 

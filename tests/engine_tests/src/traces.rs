@@ -5,6 +5,7 @@ use smtrace_app::smtrace_main;
 use std::alloc::Global;
 use std::process::Abort;
 use std::test::Fail;
+use test_tables::expect_rows;
 use trace_replay::{ShowAnswer, a_cut_header_is_refused, a_trace_has_one_answer, show};
 
 /// The lines of a table, which are parted by ` / `, each with its newline.
@@ -247,6 +248,32 @@ fn a_ping_is_replayed(rt: HostRuntime) -> Result<(), Fail> {
     let verdict = replay(alloc, trace.as_bytes())?;
     assert_eq!(rt; verdict, Verdict::Same);
     Ok(())
+}
+
+/// The spelling of a book with nothing but the pending command `rm a`.
+const PENDING: &str = "\
+    02000000000000000000000001000000020000000000000002000000726d0000\
+    010000006100000000000000000000000000000000000000";
+
+/// The verdict on these lines, where a word `PENDING` is that book.
+fn verdict(alloc: Global, row: &str) -> Result<String, Fail> {
+    let trace = lines(alloc, row.replace(alloc, "PENDING", PENDING)?.as_str())?;
+    Ok(format!(in alloc; "{:?}", replay(alloc, trace.as_bytes())?)?)
+}
+
+/// A pending command is run as the session begins, unless it is spared.
+const SPARED: &str = "\
+book PENDING / started 726d 61 / end => Same
+book PENDING / end => Differs { at: 2 }
+book PENDING / spared PENDING / end => Same
+book PENDING / spared PENDING / started 726d 61 / end => Differs { at: 3 }
+spared PENDING / end => Same
+spared PENDING / book PENDING / end => Malformed { at: 2 }
+spared 00 / end => Malformed { at: 1 }";
+
+#[test]
+fn what_is_spared_is_replayed(rt: HostRuntime) -> Result<(), Fail> {
+    expect_rows(&rt, SPARED, verdict)
 }
 
 #[test]

@@ -5,7 +5,8 @@ use checkpoint_records::Book;
 use kept_books::Shelf;
 use login_plan::{
     Choice, Decision, Plan, again_comes_to_the_same, an_answer_stands, decide, epochs_stay_behind,
-    nobody_is_asked_again, others_stay, plan_login, stores_never_fall, what_was_is_kept,
+    nobody_is_asked_again, others_stay, plan_login, stores_never_fall, what_goes_is_due,
+    what_is_due_is_unnamed, what_was_is_kept,
 };
 use std::alloc::{Alloc, Global};
 use std::process::Abort;
@@ -94,32 +95,43 @@ fn planned(alloc: Global, input: &str) -> Result<String, Fail> {
     match plan_login(alloc, row.choice, name, row.shelf.as_slice(), &row.present) {
         Ok(Plan::Ask) => text_of(alloc, &"ask"),
         Ok(Plan::Leave) => text_of(alloc, &"leave"),
-        Ok(Plan::Keep(book)) => shown(alloc, &book),
-        Ok(Plan::Return(first, book)) => {
+        Ok(Plan::Keep(first, book)) => {
             let first = shown(alloc, &first)?;
             let book = shown(alloc, &book)?;
             Ok(format!(in alloc; "{first}; {book}")?)
+        }
+        Ok(Plan::Return(first, back, book)) => {
+            let first = shown(alloc, &first)?;
+            let back = shown(alloc, &back)?;
+            let book = shown(alloc, &book)?;
+            Ok(format!(in alloc; "{first}; {back}; {book}")?)
         }
         Err(refusal) => text_of(alloc, &refusal),
     }
 }
 
 /// The epoch stays where nothing that is kept has a greater one, and leaps over what has; over a lost
-/// store all sessions come back.
+/// store all sessions come back. What books named that go from the shelf, as the sixth or as an equal
+/// one, is pending in the store's book alone, unless another kept book or the store's names it.
 const PLANNED: &str = "\
 unasked default / 1@default 1 default:1-1+a,1-2+b,1-3+c / 2 => \"ask\"
 nobody default / 1@default 1 default:1-1+a,1-2+b,1-3+c / 2 => \"leave\"
-stay default / 1@default 2 default:1-1 / 2 default:1-2 !e => 2 default smd-00000001-00000002 !e
-stay default / 1@default 3 default:1-1 / 2 default:1-2 => 65539 default smd-00000001-00000002
-1 default / 1@default 1 default:1-1=d / 3 default:1-2 work:2-1 !d => 3 default smd-00000001-00000002 work smd-00000002-00000001 !d; 3 default smd-00000001-00000001=d work smd-00000002-00000001
-1 work / 1@default 4 default:1-1 work:2-1 / 0 => 65540 default; 65540 default smd-00000001-00000001 work smd-00000002-00000001
+stay default / 1@default 2 default:1-1 / 2 default:1-2 !e => 2 default smd-00000001-00000002 !e; 2 default smd-00000001-00000002 !e
+stay default / 1@default 3 default:1-1 / 2 default:1-2 => 65539 default smd-00000001-00000002; 65539 default smd-00000001-00000002
+1 default / 1@default 1 default:1-1=d / 3 default:1-2 work:2-1 !d => 3 default smd-00000001-00000002 work smd-00000002-00000001 !d; 3 default smd-00000001-00000001=d work smd-00000002-00000001; 3 default smd-00000001-00000001=d work smd-00000002-00000001
+1 work / 1@default 4 default:1-1 work:2-1 / 0 => 65540 default; 65540 default smd-00000001-00000001 work smd-00000002-00000001; 65540 default smd-00000001-00000001 work smd-00000002-00000001
 1 games / 1@default 1 default:1-1 / 3 => Stopped(NoSession)
 1 work / 1@work 1 work:1-1 / 3 default:1-1 => Stopped(Clash)
 stay default / 1@default 4294901759 / 2 => Stopped(Worn)
-stay default / 1@default 4294901758 / 2 => 4294967294 default
+stay default / 1@default 4294901758 / 2 => 4294967294 default; 4294967294 default
 9 default / 1@default 1 default:1-1 / 3 => NoNumber
-anew work / none / 3 default:1-2 games:3-1=g work:2-1=d !e => 3 default smd-00000001-00000002 games smd-00000003-00000001=g work smd-00000002-00000001=d !e; 3 default smd-00000001-00000002 games smd-00000003-00000001=g !e
-anew default / 1@work 3 work:1-1 / 2 default:1-2 work:1-1 => 65539 default smd-00000001-00000002 work smd-00000001-00000001; 65539 default work smd-00000001-00000001
+anew work / none / 3 default:1-2 games:3-1=g work:2-1=d !e => 3 default smd-00000001-00000002 games smd-00000003-00000001=g work smd-00000002-00000001=d !e; 3 default smd-00000001-00000002 games smd-00000003-00000001=g !e; 3 default smd-00000001-00000002 games smd-00000003-00000001=g !e
+anew default / 1@work 3 work:1-1 / 2 default:1-2 work:1-1 => 65539 default smd-00000001-00000002 work smd-00000001-00000001; 65539 default work smd-00000001-00000001; 65539 default work smd-00000001-00000001
+stay default / 5@default 1 default:1-1=a; 4@default 1 default:1-2=b; 3@default 1 default:1-3=c; 2@default 1 default:1-4=d; 1@default 1 default:1-5=e / 2 default:1-6=f !g => 2 default smd-00000001-00000006=f !g; 2 default smd-00000001-00000006=f !g !e
+stay default / 5@default 1 default:1-1=a; 4@default 1 default:1-2=b; 3@default 1 default:1-3=c; 2@default 1 default:1-4=d; 1@default 1 default:1-5=e / 2 default:1-6=e => 2 default smd-00000001-00000006=e; 2 default smd-00000001-00000006=e
+1 default / 5@default 1 default:1-1=a; 4@default 1 default:1-2=b; 3@default 1 default:1-3=c; 2@default 1 default:1-4=d; 1@default 1 default:1-5=e / 2 default:1-6=f => 2 default smd-00000001-00000006=f; 2 default smd-00000001-00000005=e; 2 default smd-00000001-00000005=e !d
+stay default / 1@default 1 default:1-1 work:1-2=w / 2 default:1-1 => 2 default smd-00000001-00000001; 2 default smd-00000001-00000001 !w
+stay default / 2@work 1 work:1-2=w; 1@default 1 default:1-1 work:1-2=w / 2 default:1-1 => 2 default smd-00000001-00000001; 2 default smd-00000001-00000001
 anew default / 1@default 4294901759 / 2 => Stopped(Worn)";
 
 #[test]
@@ -146,10 +158,10 @@ fn assert_line(line: &str) -> Result<(), Fail> {
     }
 }
 
-/// A program with a blank stands between quotation marks; of what comes back the states that the store
-/// doesn't know are counted.
+/// A program with a blank stands between quotation marks; of what comes back no state counts as unkept,
+/// since the shelf names it, whether the store does or not.
 const ASKED: &str = "\
-unasked default / 2@default 2; 1@default 1 default:1-1=d+a,1-2=e+/b,1-3+c work:1-4+w / 3 default:1-1=d => \"ask 0 0\\noffer 1 starts 3 unkept 1 a /b c\\n\"
+unasked default / 2@default 2; 1@default 1 default:1-1=d+a,1-2=e+/b,1-3+c work:1-4+w / 3 default:1-1=d => \"ask 0 0\\noffer 1 starts 3 unkept 0 a /b c\\n\"
 unasked default / 1@default 1 default:1-1+a / 3 default:1-1+a => \"ask 1 1\\noffer 1 starts 1 unkept 0 a\\n\"
 unasked default / none / 3 default:1-1+a => \"ask 0 1\\n\"";
 
@@ -167,5 +179,7 @@ fn laws_do_nothing(_rt: HostRuntime) -> Result<(), Fail> {
     stores_never_fall();
     others_stay();
     what_was_is_kept();
+    what_goes_is_due();
+    what_is_due_is_unnamed();
     Ok(())
 }

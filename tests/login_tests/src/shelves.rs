@@ -2,10 +2,11 @@
 
 use crate::notation::{halves, shelf_from, shelf_shown};
 use kept_books::{
-    KeepRefusal, again_keeps_the_same, entries_at, epochs_are_kept, file_name, keep, kept_beside,
-    other_sessions_are_kept, read_file_name, the_newest_is_first, top_epoch, top_number,
-    what_goes_was_equal_or_sixth,
+    KeepRefusal, add_all, again_keeps_the_same, each_once, entries_at, epochs_are_kept, file_name,
+    keep, kept_beside, kept_discards, other_sessions_are_kept, read_file_name, spared_by,
+    the_newest_is_first, top_epoch, top_number, what_goes_was_equal_or_sixth,
 };
+use owned_lists::CommandList;
 use std::alloc::{Alloc, Global};
 use std::process::Abort;
 use std::test::Fail;
@@ -64,6 +65,40 @@ none => (0, 0, 0)
 #[test]
 fn tops_are_the_greatest(rt: HostRuntime) -> Result<(), Fail> {
     expect_rows(&rt, TOPS, tops)
+}
+
+/// The commands that a shelf names, each once, and how many it names in all.
+fn spared(alloc: Global, input: &str) -> Result<String, Fail> {
+    let shelf = shelf_from(alloc, input)?;
+    let all = kept_discards(alloc, shelf.as_slice())?;
+    let mut twice = CommandList::new(alloc);
+    add_all(all.as_slice(), &mut twice)?;
+    add_all(all.as_slice(), &mut twice)?;
+    let once = each_once(alloc, all.as_slice(), twice.as_slice())?;
+    let commands = spared_by(alloc, shelf.as_slice())?;
+    if once.as_slice().len() != commands.as_slice().len() {
+        return Err("not each once".into());
+    }
+    let mut text = text_of(alloc, &all.as_slice().len())?;
+    for command in commands.as_slice() {
+        for word in command.words.as_slice() {
+            text.push_str(" ")?;
+            text.push_str(str::from_utf8(word.as_slice())?)?;
+        }
+    }
+    Ok(text)
+}
+
+/// The commands of all sessions of a book count, each once, in their order; an entry without one names
+/// nothing.
+const SPARED: &str = "\
+none => 0
+1@default 1 default:1-1 => 0
+2@default 1 default:1-1=d work:1-2=w; 1@work 1 default:1-1=e work:1-2=w => 4 d w e";
+
+#[test]
+fn what_is_named_is_spared(rt: HostRuntime) -> Result<(), Fail> {
+    expect_rows(&rt, SPARED, spared)
 }
 
 /// What a file's name says, and how it is spelled again.

@@ -3,7 +3,7 @@
 ghost use Rattle.std.specs.Prelude.{◌≤◌, length, IfOk};
 
 use ice_cookie::Cookie;
-use owned_lists::{NoMemory, NumberList, Octets};
+use owned_lists::{CommandList, NoMemory, NumberList, Octets};
 use sm_world::{Effect, EventList, MemWorld};
 use smd_app::Identity;
 use smnest_app::smnest_main;
@@ -19,6 +19,7 @@ pub fn identity(alloc: Global) -> Result<Identity, NoMemory>
     Ok(Identity {
         cookie: Cookie([0, 1, 2, 3, 4, 5, 6, 7, 8, 9, 10, 11, 12, 13, 14, 15]),
         host,
+        spared: CommandList::new(alloc),
     })
 }
 

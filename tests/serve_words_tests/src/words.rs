@@ -18,6 +18,9 @@ fn shown(alloc: Global, serve: &ServeWords<'_>) -> Result<String, Fail> {
     if let Some(path) = serve.record_path {
         text.push_str(format!(in alloc; "record {path} ")?.as_str())?;
     }
+    if let Some(path) = serve.kept_path {
+        text.push_str(format!(in alloc; "kept {path} ")?.as_str())?;
+    }
     text.push_str(":")?;
     for word in &serve.others {
         text.push_str(" ")?;
@@ -44,12 +47,13 @@ serve --private => private : serve
 serve --quirks => quirks : serve
 serve --last-wait 5 => wait 5 : serve
 serve --record f => record f : serve
+serve --kept f => kept f : serve
 serve --socket s => : serve --socket s
 serve --unknown x --socket s --socket t => : serve --unknown x --socket s --socket t";
 
 const TOGETHER: &str = "\
-serve --private --quirks --last-wait 7 --record f --socket s --store t => private quirks wait 7 record f : serve --socket s --store t
-serve --store t --record f --socket s --last-wait 7 --quirks --private => private quirks wait 7 record f : serve --store t --socket s
+serve --private --quirks --last-wait 7 --record f --kept k --socket s --store t => private quirks wait 7 record f kept k : serve --socket s --store t
+serve --kept k --store t --record f --socket s --last-wait 7 --quirks --private => private quirks wait 7 record f kept k : serve --store t --socket s
 serve --socket s --private --control c --quirks => private quirks : serve --socket s --control c";
 
 const ONCE: &str = "\
@@ -57,7 +61,8 @@ serve --private --private => bad words
 serve --quirks --socket s --quirks => bad words
 serve --last-wait 0 --last-wait 5 => bad words
 serve --last-wait 0 --last-wait 0 => bad words
-serve --record f --private --record f => bad words";
+serve --record f --private --record f => bad words
+serve --kept f --private --kept g => bad words";
 
 const VALUES: &str = "\
 serve --last-wait 0 => wait 0 : serve
@@ -71,6 +76,7 @@ serve --last-wait  --private => bad words
 serve --last-wait => bad words
 serve --last-wait --quirks => bad words
 serve --record => bad words
+serve --kept => bad words
 serve --socket => bad words
 serve --socket s --store => bad words
 serve --record --record => record --record : serve

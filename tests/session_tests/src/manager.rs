@@ -4,7 +4,7 @@ use crate::written::{LIST, property, words};
 use checkpoint_records::Book;
 use ice_values::{Array8List, Dialog, Endian, Property, PropertyList};
 use manager_machine::{Act, Manager, Reason, SessionEvent};
-use owned_lists::{NoMemory, Octets};
+use owned_lists::{Command, CommandList, NoMemory, Octets, PairList};
 use sm_world::{Conn, Order};
 use std::alloc::{Alloc, Global};
 use std::process::Abort;
@@ -203,8 +203,13 @@ struct Desk {
 
 /// The manager of a session over an empty book.
 fn open(alloc: Global) -> Result<Desk, Fail> {
+    open_sparing(alloc, CommandList::new(alloc))
+}
+
+/// The same, where these commands are spared.
+fn open_sparing(alloc: Global, spared: CommandList) -> Result<Desk, Fail> {
     let book = Book::empty(alloc)?;
-    let (manager, acts) = Manager::begin(alloc, book, 0)?;
+    let (manager, acts) = Manager::begin(alloc, book, 0, spared)?;
     let mut done = Octets::new(alloc);
     put_acts(&mut done, acts.as_slice())?;
     Ok(Desk { manager, done })
@@ -388,6 +393,28 @@ const DISCARDED: &str = "\
 #[test]
 fn an_old_state_is_discarded(rt: HostRuntime) -> Result<(), Fail> {
     expect_rows(&rt, DISCARDED, session_shown)
+}
+
+/// The same session, in which that state is kept elsewhere.
+const SPARED: &str = "\
+1 registers, 1 restarts c, 1 saved; 1 discards d, operator checkpoint, 1 saved; 1 discards e, operator checkpoint, 1 saved => Commit |1 smd-00000001-00000001|1 SaveYourself|Commit *|1 SaveComplete|;ok|1 SaveYourself|Commit *|1 SaveComplete|;ok|1 SaveYourself|Commit *-|1 SaveComplete|Commit *|;";
+
+/// What a session brings in which the command `d` is spared.
+fn spared_shown(alloc: Global, parts: &str) -> Result<String, Fail> {
+    let mut spared = CommandList::new(alloc);
+    spared.push(Command {
+        words: words(alloc, &[b"d"])?,
+        directory: Octets::new(alloc),
+        environment: PairList::new(alloc),
+    })?;
+    let mut desk = open_sparing(alloc, spared)?;
+    take_parts(alloc, &mut desk, parts)?;
+    Ok(str::from_utf8(desk.done.as_slice())?.to_string(alloc)?)
+}
+
+#[test]
+fn a_spared_state_stays(rt: HostRuntime) -> Result<(), Fail> {
+    expect_rows(&rt, SPARED, spared_shown)
 }
 
 /// Orders are answered, also where there is nobody; and a client is forgotten.

@@ -5,7 +5,7 @@ ghost use Rattle.std.specs.Prelude.{◌≤◌, length, IfOk};
 
 use crate::worlds::{printed, world_of};
 use ice_cookie::Cookie;
-use owned_lists::{NoMemory, Octets};
+use owned_lists::{CommandList, NoMemory, Octets};
 use sm_world::MemWorld;
 use smd_app::{Identity, smd_main};
 use std::alloc::Global;
@@ -61,6 +61,7 @@ pub fn identity(alloc: Global) -> Result<Identity, NoMemory>
     Ok(Identity {
         cookie: Cookie([0, 1, 2, 3, 4, 5, 6, 7, 8, 9, 10, 11, 12, 13, 14, 15]),
         host,
+        spared: CommandList::new(alloc),
     })
 }
 

@@ -13,9 +13,9 @@ returns c =
     let fresh : IsFresh old c.in_ok-store.store = record { blank = c.in_ok-store.ensures; told = c.in_ok-world.ensures.told; first = c.in_ok-world.ensures.first; size = ap told_size c.in_ok-world.ensures.first ∙ c.in_ok-store.ensures.size } in
     elim c.match-serve.branch [
       | in-Ok w ↦ rw w.finished-is (finished_run old c.serve.new.world c.args.events c.args.patience c.args.turns c.in_ok-store.store fresh c.in_ok-world.ensures.coming
-          (rehearsed c.in_ok-config.config c.args.patience c.args.turns old (steady_outside c.serve.new.world) (Ok tt) c.in_ok-config.ensures.cookie c.in_ok-config.ensures.patience c.in_ok-config.ensures.session w.in-Ok.ensures.serves))
+          (rehearsed c.in_ok-config.config c.args.patience c.args.turns old (steady_outside c.serve.new.world) (Ok tt) c.in_ok-config.ensures.cookie c.in_ok-config.ensures.patience c.in_ok-config.ensures.session c.in_ok-config.ensures.spared w.in-Ok.ensures.serves))
       | in-Err-Spent w ↦ rw w.finished-is (spent_turns old c.serve.new.world c.args.events c.args.patience c.args.turns c.in_ok-store.store fresh c.in_ok-world.ensures.coming
-          (rehearsed c.in_ok-config.config c.args.patience c.args.turns old (steady_outside c.serve.new.world) (Err Spent) c.in_ok-config.ensures.cookie c.in_ok-config.ensures.patience c.in_ok-config.ensures.session (rw w.in-Err-Spent.field-0-is at w.in-Err-Spent.ensures.serves)))
+          (rehearsed c.in_ok-config.config c.args.patience c.args.turns old (steady_outside c.serve.new.world) (Err Spent) c.in_ok-config.ensures.cookie c.in_ok-config.ensures.patience c.in_ok-config.ensures.session c.in_ok-config.ensures.spared (rw w.in-Err-Spent.field-0-is at w.in-Err-Spent.ensures.serves)))
     ]
 
 pub unreachable-requires-in-Err-TooManySessions : goal.unreachable-requires-in-Err-TooManySessions

@@ -14,9 +14,9 @@ returns c =
     let fresh : IsFresh old c.in_ok-store.store = record { blank = c.in_ok-store.ensures; told = c.in_ok-world.ensures.told; first = c.in_ok-world.ensures.first; size = ap told_size c.in_ok-world.ensures.first ∙ c.in_ok-store.ensures.size } in
     elim c.match-serve_nested.branch [
       | in-Ok-serve_nested w ↦ rw w.finished-is (finished_run c.args.id c.args.words old c.serve_nested.new.world c.args.events c.args.turns c.in_ok-store.store fresh c.in_ok-world.ensures.coming
-          (begun_so c.args.id c.args.words c.args.turns old (steady_outside c.serve_nested.new.world) c.in_ok-config.config c.in-Ok.begun.0 c.in-Ok.begun.1 (Ok tt) c.in_ok-config.ensures.cookie c.in_ok-config.ensures.patience c.in_ok-config.ensures.session c.in-Ok.ensures.agent c.in-Ok.ensures.first w.in-Ok-serve_nested.ensures.nests))
+          (begun_so c.args.id c.args.words c.args.turns old (steady_outside c.serve_nested.new.world) c.in_ok-config.config c.in-Ok.begun.0 c.in-Ok.begun.1 (Ok tt) c.in_ok-config.ensures.cookie c.in_ok-config.ensures.patience c.in_ok-config.ensures.session c.in_ok-config.ensures.spared c.in-Ok.ensures.agent c.in-Ok.ensures.first w.in-Ok-serve_nested.ensures.nests))
       | in-Err-Spent w ↦ rw w.finished-is (spent_turns c.args.id c.args.words old c.serve_nested.new.world c.args.events c.args.turns c.in_ok-store.store fresh c.in_ok-world.ensures.coming
-          (begun_so c.args.id c.args.words c.args.turns old (steady_outside c.serve_nested.new.world) c.in_ok-config.config c.in-Ok.begun.0 c.in-Ok.begun.1 (Err Spent) c.in_ok-config.ensures.cookie c.in_ok-config.ensures.patience c.in_ok-config.ensures.session c.in-Ok.ensures.agent c.in-Ok.ensures.first (rw w.in-Err-Spent.field-0-is at w.in-Err-Spent.ensures.nests)))
+          (begun_so c.args.id c.args.words c.args.turns old (steady_outside c.serve_nested.new.world) c.in_ok-config.config c.in-Ok.begun.0 c.in-Ok.begun.1 (Err Spent) c.in_ok-config.ensures.cookie c.in_ok-config.ensures.patience c.in_ok-config.ensures.session c.in_ok-config.ensures.spared c.in-Ok.ensures.agent c.in-Ok.ensures.first (rw w.in-Err-Spent.field-0-is at w.in-Err-Spent.ensures.nests)))
     ]
 
 pub unreachable-requires-in-Err-TooManySessions : goal.unreachable-requires-in-Err-TooManySessions

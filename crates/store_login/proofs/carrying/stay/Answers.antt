@@ -1,5 +1,5 @@
 use Rattle.std.proofs.Common.{inl}
-use Rattle.store_login.proofs.Carried.{raised_and_failed, shelf_failed}
+use Rattle.store_login.proofs.Carried.{changed_and_failed, shelf_failed}
 use Rattle.store_login.proofs.carrying.stay.Goals as goal
 
 pub returns-in-Err-clause-carries : goal.returns-in-Err-clause-carries
@@ -10,7 +10,7 @@ returns-in-Ok-let_go-clause-carries g c = c.in-Ok.ensures.ok
 
 pub returns-clause-carries : goal.returns-clause-carries
 returns-clause-carries g c =
-    raised_and_failed c.args.journal c.args.login.present.now c.args.book.now (g.D.Told.outside c.args.disk.now).told (g.D.Told.outside c.keep_present.new.disk).told c.in-Ok.ensures.ok
+    changed_and_failed c.args.journal c.args.login.present.now c.args.book.now (g.D.Told.outside c.args.disk.now).told (g.D.Told.outside c.keep_present.new.disk).told c.in-Ok.ensures.ok
 
 pub returns-clause-cause : goal.returns-clause-cause
 returns-clause-cause g c = shelf_failed c.args.journal (g.D.Told.outside c.args.disk.now) (g.D.Told.outside c.keep_present.new.disk) c.in-Err-let_go.fault (inl c.in-Err-let_go.ensures)

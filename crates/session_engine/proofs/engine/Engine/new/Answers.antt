@@ -15,4 +15,4 @@ returns-clause-shows c =
 pub returns-clause-acts : goal.returns-clause-acts
 returns-clause-acts c =
     c.in_ok-follow_all.ensures.acts
-    ∙ (ap (λ (xs : List Act). xs ++ acts_for_all c.in_ok-manager.acts) c.new-2.ensures ∙ ap acts_for_all (c.in_ok-manager.ensures.acts ∙ opened_acts (waits_for c.args.config.patience c.args.book)))
+    ∙ (ap (λ (xs : List Act). xs ++ acts_for_all c.in_ok-manager.acts) c.new-2.ensures ∙ ap acts_for_all (c.in_ok-manager.ensures.acts ∙ opened_acts (waits_for c.args.config.patience c.args.config.spared c.args.book)))
